@@ -1,0 +1,9 @@
+-- Laws and theorems about automata.
+pub mod Tests
+pub mod Ranges
+pub mod Members
+pub mod Transitions
+pub mod InRange
+pub mod Bits
+pub mod EqualAutomata
+pub mod Rank

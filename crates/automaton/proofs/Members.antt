@@ -1,0 +1,390 @@
+-- The next member of a range: what it is, how a loop over next members goes through the list of all, and how it is found byte by byte.
+-- Then loops over ranges that test, sum and look for members that the header lacks: the rest from i on gives the answer of the whole.
+-- Assumes nothing.
+use mathlib.Core.Path.{_≡_, refl, sym, ap, subst, _∙_}
+use mathlib.Core.Bool.{Bool, true, false, cond, _&&_, _||_, not}
+use mathlib.Core.List.{List, [], _∷_}
+use mathlib.Core.Logic.{_⊎_, inl, inr, ⊎-elim}
+use Prim.Native.Nat.{ℕ, zero, suc, _+_, _-_, _*_, _/_, _%_, _^_, _≤_, _<_}
+use native.Mathlib.Nat.{mul-assoc, eq-or-lt-of-le, lt-of-not-le}
+use native.Mathlib.Omega.{arith}
+use lib.Bits.{shifted-even}
+use lib.Dec.{eqb, ltb}
+use lib.ListN.{getD}
+use lib.Pow.{pow-add, shl-shr, shr-shr}
+use borrow.Author.Tests.{lt-ltb, le-ltb, ltb-true, ltb-false}
+use Rattle.automaton.specs.declared.Automaton.{Automaton}
+use Rattle.automaton.specs.Ranges.{some, those, total}
+use Rattle.automaton.specs.Sets.{bit, leastMember}
+use Rattle.automaton.specs.Automata.{transition, targets, one, transitionCount}
+use Rattle.automaton.specs.Members.{transitionIn, nextFrom, countFrom}
+use Rattle.automaton.proofs.Tests.{clash, is-true, T-true}
+use Rattle.automaton.proofs.Ranges.{some-at}
+
+-- what does not change from k to k + 1, for the k from i to below j, is the same at i and j
+same-along : {X : Type 0} (g : ℕ → X) (i j : ℕ) → i ≤ j → ((k : ℕ) → i ≤ k → k < j → g k ≡ g (suc k)) → g i ≡ g j
+same-along g i j h same = go (j - i) i (omega arith) (omega arith)
+  where
+    go : (d k : ℕ) → i ≤ k → k + d ≡ j → g k ≡ g j
+    go zero k p e = ap g (omega arith)
+    go (suc d) k p e = same k p (omega arith) ∙ go d (suc k) (omega arith) (omega arith)
+
+-- What the next member is.
+
+module _ (f : ℕ → Bool) where
+  pub next-from : (n i : ℕ) → i ≤ nextFrom f n i
+  unfolding nextFrom
+  next-from zero i = omega arith
+  next-from (suc n) i = go (f i) (next-from n (suc i))
+    where
+      go : (b : Bool) → suc i ≤ nextFrom f n (suc i) → i ≤ elim b [ true ↦ i | false ↦ nextFrom f n (suc i) ]
+      go true h = omega arith
+      go false h = omega arith
+
+  pub next-to : (n i : ℕ) → nextFrom f n i ≤ i + n
+  unfolding nextFrom
+  next-to zero i = omega arith
+  next-to (suc n) i = go (f i) (next-to n (suc i))
+    where
+      go : (b : Bool) → nextFrom f n (suc i) ≤ suc i + n → elim b [ true ↦ i | false ↦ nextFrom f n (suc i) ] ≤ i + suc n
+      go true h = omega arith
+      go false h = omega arith
+
+  pub next-holds : (n i : ℕ) → nextFrom f n i < i + n → f (nextFrom f n i) ≡ true
+  unfolding nextFrom
+  next-holds zero i h = absurd (omega arith)
+  next-holds (suc n) i h = go (f i) refl (next-holds n (suc i)) h
+    where
+      go : (b : Bool) → f i ≡ b → (nextFrom f n (suc i) < suc i + n → f (nextFrom f n (suc i)) ≡ true)
+          → elim b [ true ↦ i | false ↦ nextFrom f n (suc i) ] < i + suc n
+          → f (elim b [ true ↦ i | false ↦ nextFrom f n (suc i) ]) ≡ true
+      go true e ih l = e
+      go false e ih l = ih (omega arith)
+
+  pub next-before : (n i k : ℕ) → i ≤ k → k < nextFrom f n i → f k ≡ false
+  unfolding nextFrom
+  next-before zero i k h l = absurd (omega arith)
+  next-before (suc n) i k h l = go (f i) refl (next-before n (suc i) k) l
+    where
+      go : (b : Bool) → f i ≡ b → (suc i ≤ k → k < nextFrom f n (suc i) → f k ≡ false)
+          → k < elim b [ true ↦ i | false ↦ nextFrom f n (suc i) ] → f k ≡ false
+      go true e ih m = absurd (omega arith)
+      go false e ih m = ⊎-elim (λ q. subst (λ (x : ℕ). f x ≡ false) q e) (λ q. ih q m) (eq-or-lt-of-le h)
+
+  -- a number at which f does not hold is passed over
+  next-suc : (m i : ℕ) → i < m → f i ≡ false → nextFrom f (m - i) i ≡ nextFrom f (m - suc i) (suc i)
+  unfolding nextFrom
+  next-suc m i h e = go (m - i) (m - suc i) (omega arith)
+    where
+      go : (n l : ℕ) → n ≡ suc l → nextFrom f n i ≡ nextFrom f l (suc i)
+      go n l q = ap (λ (x : ℕ). nextFrom f x i) q ∙ ap (λ (b : Bool). elim b [ true ↦ i | false ↦ nextFrom f l (suc i) ]) e
+
+  those-suc : (m i : ℕ) → f i ≡ false → those f (m - i) i ≡ those f (m - suc i) (suc i)
+  unfolding those
+  those-suc m i e = go (m - i) (m - suc i) (omega arith)
+    where
+      go : (n l : ℕ) → l ≡ n - 1 → those f n i ≡ those f l (suc i)
+      go zero l q = let z : 0 ≡ l = omega arith in ap (λ (x : ℕ). those f x (suc i)) z
+      go (suc n) l q =
+          let z : n ≡ l = omega arith in
+          ap (λ (b : Bool). elim b [ true ↦ i ∷ those f n (suc i) | false ↦ those f n (suc i) ]) e
+          ∙ ap (λ (x : ℕ). those f x (suc i)) z
+
+  -- numbers at which f does not hold are passed over
+  pub next-skip : (m i j : ℕ) → i ≤ j → j ≤ m → ((k : ℕ) → i ≤ k → k < j → f k ≡ false)
+      → nextFrom f (m - i) i ≡ nextFrom f (m - j) j
+  next-skip m i j h l none = same-along (λ k. nextFrom f (m - k) k) i j h (λ k p q. next-suc m k (omega arith) (none k p q))
+
+  -- where the range has ended there is none
+  pub next-end : (m i : ℕ) → i ≡ m → nextFrom f (m - i) i ≡ m
+  unfolding nextFrom
+  next-end m i e = go (m - i) (omega arith) ∙ e
+    where
+      go : (n : ℕ) → n ≡ 0 → nextFrom f n i ≡ i
+      go n q = ap (λ (x : ℕ). nextFrom f x i) q
+
+  -- the first number at which f holds is the next member
+  pub next-is : (m i t : ℕ) → i ≤ t → t < m → f t ≡ true → ((k : ℕ) → i ≤ k → k < t → f k ≡ false) → nextFrom f (m - i) i ≡ t
+  unfolding nextFrom
+  next-is m i t h l e none = next-skip m i t h (omega arith) none ∙ go (m - t) (m - suc t) (omega arith)
+    where
+      go : (n k : ℕ) → n ≡ suc k → nextFrom f n t ≡ t
+      go n k q = ap (λ (x : ℕ). nextFrom f x t) q ∙ ap (λ (b : Bool). elim b [ true ↦ t | false ↦ nextFrom f k (suc t) ]) e
+
+  -- A loop that starts at `t = nextFrom f (M - i) i` and goes on, while t < m, to the next member from t + 1 on goes through the
+  -- members below m: here they are those from t on, ..
+  pub those-next : (M m i : ℕ) → i ≤ M → those f (m - i) i ≡ those f (m - nextFrom f (M - i) i) (nextFrom f (M - i) i)
+  those-next M m i h =
+      same-along (λ k. those f (m - k) k) i (nextFrom f (M - i) i) (next-from (M - i) i)
+      (λ k p q. those-suc m k (next-before (M - i) i k p q))
+
+  -- .. of these t is the first, and the rest are those from t + 1 on, ..
+  pub those-here : (m t : ℕ) → t < m → f t ≡ true → those f (m - t) t ≡ t ∷ those f (m - (t + 1)) (t + 1)
+  unfolding those
+  those-here m t h e = go (m - t) (m - (t + 1)) (t + 1) (omega arith) (omega arith)
+    where
+      go : (n l u : ℕ) → n ≡ suc l → u ≡ suc t → those f n t ≡ t ∷ those f l u
+      go n l u q r =
+          ap (λ (x : ℕ). those f x t) q
+          ∙ ap (λ (b : Bool). elim b [ true ↦ t ∷ those f l (suc t) | false ↦ those f l (suc t) ]) e
+          ∙ ap (λ (x : ℕ). t ∷ those f l x) (sym r)
+
+  -- .. and from m on there are none.
+  pub those-end : (m t : ℕ) → m ≤ t → those f (m - t) t ≡ []
+  unfolding those
+  those-end m t h = go (m - t) (omega arith)
+    where
+      go : (n : ℕ) → n ≡ 0 → those f n t ≡ []
+      go n q = ap (λ (x : ℕ). those f x t) q
+
+-- Bits.
+
+-- division and multiplication by 2 ^ k clear the bits below k ..
+pub bit-cleared : (w k i : ℕ) → i < k → bit (w / 2 ^ k * 2 ^ k) i ≡ false
+bit-cleared w k i h = go (k - suc i) (omega arith)
+  where
+    go : (d : ℕ) → k ≡ suc d + i → bit (w / 2 ^ k * 2 ^ k) i ≡ false
+    go d e =
+        ap (λ (n : ℕ). eqb (n / 2 ^ i % 2) 1)
+        (ap (λ (x : ℕ). w / 2 ^ k * 2 ^ x) e
+        ∙ ap (λ (x : ℕ). w / 2 ^ k * x) (pow-add 2 (suc d) i)
+        ∙ sym (mul-assoc (w / 2 ^ k) (2 ^ suc d) (2 ^ i)))
+        ∙ ap (λ (n : ℕ). eqb (n % 2) 1) (shl-shr (w / 2 ^ k * 2 ^ suc d) i)
+        ∙ ap (λ (n : ℕ). eqb n 1) (shifted-even (w / 2 ^ k) d)
+
+-- .. and keep the others
+pub bit-kept : (w k i : ℕ) → k ≤ i → bit (w / 2 ^ k * 2 ^ k) i ≡ bit w i
+bit-kept w k i h = go (i - k) (omega arith)
+  where
+    go : (d : ℕ) → i ≡ k + d → bit (w / 2 ^ k * 2 ^ k) i ≡ bit w i
+    go d e =
+        ap (λ (n : ℕ). eqb (n % 2) 1)
+        (ap (λ (x : ℕ). w / 2 ^ k * 2 ^ k / 2 ^ x) e
+        ∙ sym (shr-shr (w / 2 ^ k * 2 ^ k) k d)
+        ∙ ap (λ (x : ℕ). x / 2 ^ d) (shl-shr (w / 2 ^ k) k)
+        ∙ shr-shr w k d
+        ∙ ap (λ (x : ℕ). w / 2 ^ x) (sym e))
+
+-- The least member of a byte.
+
+least-next : (w : ℕ) → leastMember w ≡ nextFrom (bit w) 8 0
+unfolding leastMember nextFrom
+least-next w = refl
+
+pub least-to : (w : ℕ) → leastMember w ≤ 8
+least-to w = rw least-next (next-to (bit w) 8 0)
+
+pub least-holds : (w : ℕ) → leastMember w < 8 → bit w (leastMember w) ≡ true
+least-holds w h = rw least-next (next-holds (bit w) 8 0 (rw least-next at h))
+
+pub least-before : (w k : ℕ) → k < leastMember w → bit w k ≡ false
+least-before w k h = next-before (bit w) 8 0 k (omega arith) (rw least-next at h)
+
+-- The next member from i on is found byte by byte. Byte b holds the numbers from b * 8 on, i among them; v is that byte with the
+-- bits below i cleared, and n its least member.
+
+module _ (f : ℕ → Bool) (b i v n : ℕ) (low : b * 8 ≤ i) (least : n ≡ leastMember v)
+    (clear : (k : ℕ) → b * 8 + k < i → bit v k ≡ false)
+    (in-byte : (k : ℕ) → i ≤ b * 8 + k → k < 8 → f (b * 8 + k) ≡ bit v k) where
+  none-before : (j : ℕ) → i ≤ j → j < b * 8 + 8 → j < b * 8 + n → f j ≡ false
+  none-before j h u l = go (j - b * 8) (omega arith)
+    where
+      go : (k : ℕ) → j ≡ b * 8 + k → f j ≡ false
+      go k e = ap f e ∙ in-byte k (omega arith) (omega arith) ∙ least-before v k (omega arith)
+
+  pub next-in-byte : (m : ℕ) → b * 8 + 8 ≤ m → n < 8 → nextFrom f (m - i) i ≡ b * 8 + n
+  next-in-byte m h l =
+      let e : bit v n ≡ true = rw least (least-holds v (rw least at l)) in
+      let g : i < suc (b * 8 + n) = lt-of-not-le (λ q. clash e (clear n q)) in
+      next-is f m i (b * 8 + n) (omega arith) (omega arith) (in-byte n (omega arith) l ∙ e)
+      (λ j p q. none-before j p (omega arith) q)
+
+  pub next-past-byte : (m j : ℕ) → j ≡ b * 8 + 8 → i ≤ j → j ≤ m → 8 ≤ n → nextFrom f (m - i) i ≡ nextFrom f (m - j) j
+  next-past-byte m j d g h l = next-skip f m i j g h (λ k p q. none-before k p (omega arith) (omega arith))
+
+-- The targets of q on letter a stand in four bytes of an automaton's transitions.
+
+module _ (t : List ℕ) (q a : ℕ) where
+  bit-of-byte : (b k : ℕ) → k < 8 → transitionIn t q a (b * 8 + k) ≡ bit (getD t ((q * 16 + a) * 4 + b) 0) k
+  bit-of-byte b k h = go ((b * 8 + k) / 8) ((b * 8 + k) % 8) (omega arith) (omega arith)
+    where
+      go : (c j : ℕ) → c ≡ b → j ≡ k → bit (getD t ((q * 16 + a) * 4 + c) 0) j ≡ bit (getD t ((q * 16 + a) * 4 + b) 0) k
+      go c j d e = ap (λ (x : ℕ). bit (getD t ((q * 16 + a) * 4 + x) 0) j) d ∙ ap (bit (getD t ((q * 16 + a) * 4 + b) 0)) e
+
+  -- with n the least member of byte b, the next target is in that byte or past it
+  module _ (b n : ℕ) (least : n ≡ leastMember (getD t ((q * 16 + a) * 4 + b) 0)) where
+    pub target-in-byte : b < 4 → n < 8 → nextFrom (transitionIn t q a) (32 - b * 8) (b * 8) ≡ b * 8 + n
+    target-in-byte h l =
+        next-in-byte (transitionIn t q a) b (b * 8) _ n (omega arith) least (λ k u. absurd (omega arith))
+        (λ k _ u. bit-of-byte b k u) 32 (omega arith) l
+
+    pub target-past-byte : b < 4 → 8 ≤ n
+        → nextFrom (transitionIn t q a) (32 - b * 8) (b * 8) ≡ nextFrom (transitionIn t q a) (32 - (b + 1) * 8) ((b + 1) * 8)
+    target-past-byte h l =
+        next-past-byte (transitionIn t q a) b (b * 8) _ n (omega arith) least (λ k u. absurd (omega arith))
+        (λ k _ u. bit-of-byte b k u) 32 ((b + 1) * 8) (omega arith) (omega arith) (omega arith) l
+
+  -- with n the least member, from i on, of the byte that holds i
+  module _ (i n : ℕ) (least : n ≡ leastMember (getD t ((q * 16 + a) * 4 + i / 8) 0 / 2 ^ (i % 8) * 2 ^ (i % 8))) where
+    cleared : (k : ℕ) → i / 8 * 8 + k < i → bit (getD t ((q * 16 + a) * 4 + i / 8) 0 / 2 ^ (i % 8) * 2 ^ (i % 8)) k ≡ false
+    cleared k u = bit-cleared (getD t ((q * 16 + a) * 4 + i / 8) 0) (i % 8) k (omega arith)
+
+    kept : (k : ℕ) → i ≤ i / 8 * 8 + k → k < 8
+        → transitionIn t q a (i / 8 * 8 + k) ≡ bit (getD t ((q * 16 + a) * 4 + i / 8) 0 / 2 ^ (i % 8) * 2 ^ (i % 8)) k
+    kept k p u = bit-of-byte (i / 8) k u ∙ sym (bit-kept (getD t ((q * 16 + a) * 4 + i / 8) 0) (i % 8) k (omega arith))
+
+    pub target-in-first : i < 32 → n < 8 → nextFrom (transitionIn t q a) (32 - i) i ≡ i / 8 * 8 + n
+    target-in-first h l = next-in-byte (transitionIn t q a) (i / 8) i _ n (omega arith) least cleared kept 32 (omega arith) l
+
+    pub target-past-first : i < 32 → 8 ≤ n
+        → nextFrom (transitionIn t q a) (32 - i) i ≡ nextFrom (transitionIn t q a) (32 - (i / 8 + 1) * 8) ((i / 8 + 1) * 8)
+    target-past-first h l =
+        next-past-byte (transitionIn t q a) (i / 8) i _ n (omega arith) least cleared kept 32 ((i / 8 + 1) * 8)
+        (omega arith) (omega arith) (omega arith) l
+
+-- Loops over a range of m numbers: at i the numbers below i are done, and the rest starts at i.
+
+module _ (f : ℕ → Bool) where
+  some-suc : (m i : ℕ) → f i ≡ false → some f (m - i) i ≡ some f (m - suc i) (suc i)
+  unfolding some
+  some-suc m i e = go (m - i) (m - suc i) (omega arith)
+    where
+      go : (n l : ℕ) → l ≡ n - 1 → some f n i ≡ some f l (suc i)
+      go zero l q = let z : 0 ≡ l = omega arith in ap (λ (x : ℕ). some f x (suc i)) z
+      go (suc n) l q =
+          let z : n ≡ l = omega arith in
+          ap (λ (b : Bool). b || some f n (suc i)) e ∙ ap (λ (x : ℕ). some f x (suc i)) z
+
+  pub some-skip : (m i j : ℕ) → i ≤ j → ((k : ℕ) → i ≤ k → k < j → f k ≡ false) → some f (m - i) i ≡ some f (m - j) j
+  some-skip m i j h none = same-along (λ k. some f (m - k) k) i j h (λ k p q. some-suc m k (none k p q))
+
+  pub some-past : (m i : ℕ) → f i ≡ false → some f (m - i) i ≡ some f (m - (i + 1)) (i + 1)
+  some-past m i e = some-suc m i e ∙ ap (λ (j : ℕ). some f (m - j) j) (omega arith)
+
+  pub some-here : (m i : ℕ) → i < m → f i ≡ true → some f (m - i) i ≡ true
+  unfolding some
+  some-here m i h e = go (m - i) (m - suc i) (omega arith)
+    where
+      go : (n l : ℕ) → n ≡ suc l → some f n i ≡ true
+      go n l q = ap (λ (x : ℕ). some f x i) q ∙ ap (λ (b : Bool). b || some f l (suc i)) e
+
+  pub some-end : (m i : ℕ) → m ≤ i → some f (m - i) i ≡ false
+  unfolding some
+  some-end m i h = go (m - i) (omega arith)
+    where
+      go : (n : ℕ) → n ≡ 0 → some f n i ≡ false
+      go n q = ap (λ (x : ℕ). some f x i) q
+
+-- a sum over a range, with c the sum of the numbers done
+pub total-start : (f : ℕ → ℕ) (m : ℕ) → total f m 0 ≡ 0 + total f (m - 0) 0
+total-start f m = go (m - 0) (omega arith)
+  where
+    go : (n : ℕ) → n ≡ m → total f m 0 ≡ 0 + total f n 0
+    go n q = let u : total f n 0 ≡ total f m 0 = ap (λ (y : ℕ). total f y 0) q in omega arith
+
+pub total-past : (f : ℕ → ℕ) (m i c x : ℕ) → i < m → x ≡ f i → c + total f (m - i) i ≡ (c + x) + total f (m - (i + 1)) (i + 1)
+unfolding total
+total-past f m i c x h e = go (m - i) (m - (i + 1)) (i + 1) (omega arith) (omega arith)
+  where
+    go : (n l j : ℕ) → n ≡ suc l → j ≡ suc i → c + total f n i ≡ (c + x) + total f l j
+    go n l j p q =
+        let u : total f n i ≡ f i + total f l (suc i) = ap (λ (y : ℕ). total f y i) p in
+        let v : total f l j ≡ total f l (suc i) = ap (total f l) q in
+        omega arith
+
+pub total-end : (f : ℕ → ℕ) (m i c : ℕ) → m ≤ i → c + total f (m - i) i ≡ c
+unfolding total
+total-end f m i c h = go (m - i) (omega arith)
+  where
+    go : (n : ℕ) → n ≡ 0 → c + total f n i ≡ c
+    go n q = let u : total f n i ≡ 0 = ap (λ (y : ℕ). total f y i) q in omega arith
+
+pub total-same : (f g : ℕ → ℕ) (n i : ℕ) → ((k : ℕ) → i ≤ k → k < i + n → f k ≡ g k) → total f n i ≡ total g n i
+unfolding total
+total-same f g zero i e = refl
+total-same f g (suc n) i e =
+    let u = e i (omega arith) (omega arith) in
+    let v = total-same f g n (suc i) (λ k p q. e k (omega arith) (omega arith)) in
+    omega arith
+
+-- lists over a range of tests that agree there
+pub those-same : (f g : ℕ → Bool) (n i : ℕ) → ((k : ℕ) → i ≤ k → k < i + n → f k ≡ g k) → those f n i ≡ those g n i
+unfolding those
+those-same f g zero i e = refl
+those-same f g (suc n) i e =
+    ap (λ (b : Bool). elim b [ true ↦ i ∷ those f n (suc i) | false ↦ those f n (suc i) ]) (e i (omega arith) (omega arith))
+    ∙ ap (λ (l : List ℕ). elim (g i) [ true ↦ i ∷ l | false ↦ l ])
+    (those-same f g n (suc i) (λ k p q. e k (omega arith) (omega arith)))
+
+-- Members that are not among the first n numbers.
+
+pub stray-below : (b : Bool) (k n : ℕ) → k < n → (b && not (ltb k n)) ≡ false
+stray-below true k n h = ap not (lt-ltb k n h)
+stray-below false k n h = refl
+
+pub stray-above : (b : Bool) (k n : ℕ) → n ≤ k → (b && not (ltb k n)) ≡ b
+stray-above true k n h = ap not (le-ltb k n h)
+stray-above false k n h = refl
+
+le-or-lt : (i k : ℕ) → (i ≤ k) ⊎ (k < i)
+le-or-lt i k = go (ltb k i) refl
+  where
+    go : (b : Bool) → ltb k i ≡ b → (i ≤ k) ⊎ (k < i)
+    go true e = inr (ltb-true k i e)
+    go false e = inl (ltb-false k i e)
+
+none-of : (g : ℕ → Bool) (m : ℕ) → ((k : ℕ) → k < m → g k ≡ false) → some g m 0 ≡ false
+none-of g m none =
+    let z : m ≡ m - 0 = omega arith in
+    ap (λ (n : ℕ). some g n 0) z ∙ some-skip g m 0 m (omega arith) (λ k _ u. none k u) ∙ some-end g m m (omega arith)
+
+-- there is a member of the range that is not among the first i exactly when the next member from i on is in the range
+pub some-next : (f g : ℕ → Bool) (m i : ℕ) → i ≤ m → ((k : ℕ) → k < i → g k ≡ false) → ((k : ℕ) → i ≤ k → g k ≡ f k)
+    → ltb (nextFrom f (m - i) i) m ≡ some g m 0
+some-next f g m i h below above = go (ltb (nextFrom f (m - i) i) m) refl
+  where
+    go : (b : Bool) → ltb (nextFrom f (m - i) i) m ≡ b → ltb (nextFrom f (m - i) i) m ≡ some g m 0
+    go true e =
+        let l = ltb-true (nextFrom f (m - i) i) m e in
+        let x = above (nextFrom f (m - i) i) (next-from f (m - i) i) ∙ next-holds f (m - i) i (omega arith) in
+        e ∙ sym (T-true (some g m 0) (some-at g m (nextFrom f (m - i) i) l (is-true (g (nextFrom f (m - i) i)) x)))
+    go false e =
+        let l = ltb-false (nextFrom f (m - i) i) m e in
+        let none : (k : ℕ) → i ≤ k → k < m → g k ≡ false =
+        λ k p u. above k p ∙ next-before f (m - i) i k p (omega arith) in
+        e ∙ sym (none-of g m (λ k u. ⊎-elim (λ q. none k (omega arith) u) (λ q. below k q) (le-or-lt i k)))
+
+-- the members of the range that are not among the first n, where the range has those at all
+pub first-stray-le : (n m : ℕ) → n ≤ m → (known : Bool) → cond known n 0 ≤ m
+first-stray-le n m h true = h
+first-stray-le n m h false = omega arith
+
+module _ (f : ℕ → Bool) (n m : ℕ) (h : n ≤ m) where
+  pub some-stray : (known : Bool) (j : ℕ) → j ≡ cond known n 0
+      → ltb (nextFrom f (m - j) j) m ≡ some (λ k. f k && not (known && ltb k n)) m 0
+  some-stray true j e =
+      some-next f _ m j (omega arith) (λ k u. stray-below (f k) k n (omega arith)) (λ k u. stray-above (f k) k n (omega arith))
+  some-stray false j e = some-next f _ m j (omega arith) (λ k u. absurd (omega arith)) (λ k u. go (f k))
+    where
+      go : (b : Bool) → (b && true) ≡ b
+      go true = refl
+      go false = refl
+
+-- Between the header's states, on its letters, a transition is its bit.
+
+module _ (A : Automaton) where
+  pub transition-bit : (q a r : ℕ) → q < A .states → a < A .letters → r < A .states
+      → transition A q a r ≡ transitionIn (A .transitions) q a r
+  unfolding transition
+  transition-bit q a r h l u = rw (lt-ltb q (A .states) h, lt-ltb a (A .letters) l, lt-ltb r (A .states) u)
+
+  pub targets-bits : (q a : ℕ) → q < A .states → a < A .letters
+      → targets A q a ≡ those (transitionIn (A .transitions) q a) (A .states) 0
+  unfolding targets
+  targets-bits q a h l = those-same _ _ (A .states) 0 (λ r _ u. transition-bit q a r h l (omega arith))
+
+  pub count-bits : total (countFrom (A .transitions) (A .states) (A .letters)) (A .states) 0 ≡ transitionCount A
+  unfolding transitionCount
+  count-bits =
+      total-same _ _ (A .states) 0 (λ q _ h. total-same _ _ (A .letters) 0 (λ a _ l. total-same _ _ (A .states) 0
+      (λ r _ u. ap one (sym (transition-bit q a r (omega arith) (omega arith) (omega arith))))))

@@ -1,0 +1,117 @@
+-- Laws of tests, lists and largest values over a range of numbers. Assumes nothing.
+use mathlib.Core.Path.{_≡_, refl, sym, ap, subst, _∙_}
+use mathlib.Core.Bool.{Bool, true, false, _||_}
+use mathlib.Core.Logic.{_⊎_, inl, inr, ⊎-elim}
+use mathlib.Core.List.{List, [], _∷_, List·Memᴰ, List·Memᴰ·head, List·Memᴰ·tail, List·Memᴰ·not-nil, List·Memᴰ·cases-cons}
+use Prim.Native.Nat.{ℕ, zero, suc, _+_, _≤_, _<_, max}
+use native.Mathlib.Nat.{add-zero, zero-add, add-suc, suc-add, le-of-suc-le-suc, not-suc-le-zero, le-max-left, le-max-right, le-trans, zero-max, max-zero, suc-max-suc}
+use native.Mathlib.Omega.{arith}
+use lib.Dec.{T}
+use lib.ListN.{length, getD}
+use Rattle.automaton.specs.Ranges.{some, those, table, largest}
+use Rattle.automaton.proofs.Tests.{or-cases, or-left, or-right}
+
+-- Tables.
+
+pub getD-table {ℓ} : {A : Type ℓ} (f : ℕ → A) (n i k : ℕ) (d : A) → k < n → getD (table f n i) k d ≡ f (i + k)
+unfolding table
+getD-table f zero i k d h = absurd (not-suc-le-zero h)
+getD-table f (suc n) i zero d h = ap f (sym (add-zero i))
+getD-table f (suc n) i (suc k) d h = getD-table f n (suc i) k d (le-of-suc-le-suc h) ∙ ap f (suc-add i k ∙ sym (add-suc i k))
+
+-- the element at k of a table that starts at 0
+pub table-at {ℓ} : {A : Type ℓ} (f : ℕ → A) (n k : ℕ) (d : A) → k < n → getD (table f n 0) k d ≡ f k
+table-at f n k d h = getD-table f n 0 k d h ∙ ap f (zero-add k)
+
+pub length-table {ℓ} : {A : Type ℓ} (f : ℕ → A) (n i : ℕ) → length (table f n i) ≡ n
+unfolding table
+length-table f zero i = refl
+length-table f (suc n) i = ap suc (length-table f n (suc i))
+
+pub table-has : {A : Type 0} (f : ℕ → A) (n i k : ℕ) → k < n → List·Memᴰ (f (i + k)) (table f n i)
+unfolding table
+table-has f zero i k h = absurd (not-suc-le-zero h)
+table-has f (suc n) i zero h = List·Memᴰ·head (ap f (add-zero i))
+table-has f (suc n) i (suc k) h =
+    List·Memᴰ·tail (subst (λ (m : ℕ). List·Memᴰ (f m) (table f n (suc i))) (suc-add i k ∙ sym (add-suc i k)) (table-has f n (suc i) k (le-of-suc-le-suc h)))
+
+-- Tests.
+
+pub some-find : (f : ℕ → Bool) (n i : ℕ) → T (some f n i) → (k : ℕ) × (k < i + n) × T (f k)
+unfolding some
+some-find f zero i t = absurd t
+some-find f (suc n) i t = go (some-find f n (suc i)) (or-cases (f i) (some f n (suc i)) t)
+  where
+    go : (T (some f n (suc i)) → (k : ℕ) × (k < suc i + n) × T (f k)) → T (f i) ⊎ T (some f n (suc i)) → (k : ℕ) × (k < i + suc n) × T (f k)
+    go ih (inl h) = (i, omega arith, h)
+    go ih (inr h) = let r = ih h in (r .0, omega (arith, r .1), r .2)
+
+pub some-intro : (f : ℕ → Bool) (n i k : ℕ) → k < n → T (f (i + k)) → T (some f n i)
+unfolding some
+some-intro f zero i k h t = absurd (not-suc-le-zero h)
+some-intro f (suc n) i zero h t = or-left (f i) _ (rw add-zero at t)
+some-intro f (suc n) i (suc k) h t = or-right (f i) _ (some-intro f n (suc i) k (le-of-suc-le-suc h) (rw (add-suc i k, ← suc-add i k) at t))
+
+-- the same for ranges that start at 0
+pub some-at : (f : ℕ → Bool) (n k : ℕ) → k < n → T (f k) → T (some f n 0)
+some-at f n k h t = some-intro f n 0 k h (rw zero-add t)
+
+pub some-below : (f : ℕ → Bool) (n : ℕ) → T (some f n 0) → (k : ℕ) × (k < n) × T (f k)
+some-below f n t = let r = some-find f n 0 t in (r .0, omega (arith, r .1), r .2)
+
+-- Lists of the numbers that pass.
+
+pub those-has : (f : ℕ → Bool) (n i k : ℕ) → k < n → T (f (i + k)) → List·Memᴰ (i + k) (those f n i)
+unfolding those
+those-has f zero i k h t = absurd (not-suc-le-zero h)
+those-has f (suc n) i zero h t = go (f i) (rw add-zero at t)
+  where
+    go : (b : Bool) → T b → List·Memᴰ (i + 0) (elim b [ true ↦ i ∷ those f n (suc i) | false ↦ those f n (suc i) ])
+    go true s = List·Memᴰ·head (add-zero i)
+    go false s = absurd s
+those-has f (suc n) i (suc k) h t =
+    go (f i) (subst (λ (m : ℕ). List·Memᴰ m (those f n (suc i))) e (those-has f n (suc i) k (le-of-suc-le-suc h) (subst (λ (m : ℕ). T (f m)) (sym e) t)))
+  where
+    e : suc i + k ≡ i + suc k
+    e = suc-add i k ∙ sym (add-suc i k)
+
+    go : (b : Bool) → List·Memᴰ (i + suc k) (those f n (suc i)) → List·Memᴰ (i + suc k) (elim b [ true ↦ i ∷ those f n (suc i) | false ↦ those f n (suc i) ])
+    go true m = List·Memᴰ·tail m
+    go false m = m
+
+pub those-pass : (f : ℕ → Bool) (n i k : ℕ) → List·Memᴰ k (those f n i) → T (f k)
+unfolding those
+those-pass f zero i k m = absurd (List·Memᴰ·not-nil m)
+those-pass f (suc n) i k m = go (those-pass f n (suc i) k) (f i) refl m
+  where
+    go : (List·Memᴰ k (those f n (suc i)) → T (f k)) → (b : Bool) → f i ≡ b
+        → List·Memᴰ k (elim b [ true ↦ i ∷ those f n (suc i) | false ↦ those f n (suc i) ]) → T (f k)
+    go ih true e m′ = ⊎-elim (λ q. subst (λ (x : ℕ). T (f x)) (sym q) (subst T (sym e) tt)) ih (List·Memᴰ·cases-cons m′)
+    go ih false e m′ = ih m′
+
+-- Largest values.
+
+pub largest-ub : (f : ℕ → ℕ) (n i k : ℕ) → k < n → f (i + k) ≤ largest f n i
+unfolding largest
+largest-ub f zero i k h = absurd (not-suc-le-zero h)
+largest-ub f (suc n) i zero h = rw add-zero (le-max-left (f i) _)
+largest-ub f (suc n) i (suc k) h =
+    rw (add-suc i k, ← suc-add i k) (le-trans (largest-ub f n (suc i) k (le-of-suc-le-suc h)) (le-max-right (f i) _))
+
+pub max-is : (a b : ℕ) → (max a b ≡ a) ⊎ (max a b ≡ b)
+max-is zero b = inr (zero-max b)
+max-is (suc a) zero = inl (max-zero (suc a))
+max-is (suc a) (suc b) =
+    ⊎-elim (λ e. inl (suc-max-suc a b ∙ ap suc e)) (λ e. inr (suc-max-suc a b ∙ ap suc e)) (max-is a b)
+
+-- where the largest is above 0, it is the value somewhere
+pub largest-at : (f : ℕ → ℕ) (n i : ℕ) → 0 < largest f n i → (k : ℕ) × (largest f n i ≡ f k)
+unfolding largest
+largest-at f zero i h = absurd (not-suc-le-zero h)
+largest-at f (suc n) i h = go (largest-at f n (suc i)) (max-is (f i) (largest f n (suc i)))
+  where
+    go : (0 < largest f n (suc i) → (k : ℕ) × (largest f n (suc i) ≡ f k))
+        → (max (f i) (largest f n (suc i)) ≡ f i) ⊎ (max (f i) (largest f n (suc i)) ≡ largest f n (suc i))
+        → (k : ℕ) × (max (f i) (largest f n (suc i)) ≡ f k)
+    go ih (inl e) = (i, e)
+    go ih (inr e) = let r = ih (rw e at h) in (r .0, e ∙ r .1)

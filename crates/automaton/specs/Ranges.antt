@@ -1,0 +1,30 @@
+-- Tests, lists, sums and largest values over the n numbers from i on.
+--   some f n i      f holds at one of them
+--   those f n i     those of them at which f holds, lowest first
+--   table f n i     f of each of them
+--   largest f n i   the largest value of f at them; of none it is 0
+--   total f n i     the sum of f over them
+-- Assumes nothing.
+use mathlib.Core.Bool.{Bool, true, false, _||_}
+use mathlib.Core.List.{List, [], _∷_}
+use Prim.Native.Nat.{ℕ, zero, suc, _+_, max}
+
+unfoldable pub some : (ℕ → Bool) → ℕ → ℕ → Bool
+some f zero i = false
+some f (suc n) i = f i || some f n (suc i)
+
+unfoldable pub those : (ℕ → Bool) → ℕ → ℕ → List ℕ
+those f zero i = []
+those f (suc n) i = elim (f i) [ true ↦ i ∷ those f n (suc i) | false ↦ those f n (suc i) ]
+
+unfoldable pub table {ℓ} : {A : Type ℓ} → (ℕ → A) → ℕ → ℕ → List A
+table f zero i = []
+table f (suc n) i = f i ∷ table f n (suc i)
+
+unfoldable pub largest : (ℕ → ℕ) → ℕ → ℕ → ℕ
+largest f zero i = 0
+largest f (suc n) i = max (f i) (largest f n (suc i))
+
+unfoldable pub total : (ℕ → ℕ) → ℕ → ℕ → ℕ
+total f zero i = 0
+total f (suc n) i = f i + total f n (suc i)

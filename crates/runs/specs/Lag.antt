@@ -1,0 +1,37 @@
+-- Lag, 01's term (01, "The walk"): "Lag of two run prefixes of equal length: the largest j for which there are j ascending
+-- positions where the first run is accepting, with the second run not accepting anywhere from the first to the last of them,
+-- both included; 0 if there are none."
+--   Ascending xs          each position of xs is below the later ones
+--   Lagging A B π ρ xs    xs are such positions of the run prefixes π of A and ρ of B
+--   Lags A B π ρ j        there are j such positions
+--   Largest P n           n is the largest number that P holds of
+--   LagIs A B π ρ n       the lag of π and ρ, in this order, is n
+-- No position at all is a list of 0 positions, so where there are no others the largest j is 0.
+-- Assumes nothing.
+use mathlib.Core.Path.{_≡_}
+use mathlib.Core.Bool.{not}
+use mathlib.Core.List.{List, [], _∷_, List·Memᴰ}
+use Prim.Native.Nat.{ℕ, _≤_, _<_}
+use lib.Dec.{T}
+use lib.ListN.{length, getD}
+use Rattle.automaton.specs.declared.Automaton.{Automaton}
+use Rattle.automaton.specs.Automata.{accepts}
+
+pub data Ascending : List ℕ → Type 0 where
+  none : Ascending []
+  more : {x : ℕ} {xs : List ℕ} → ((y : ℕ) → List·Memᴰ y xs → x < y) → Ascending xs → Ascending (x ∷ xs)
+
+pub record Lagging (A B : Automaton) (π ρ xs : List ℕ) : Type 0 where
+  pub ascending : Ascending xs
+  pub visits : (x : ℕ) → List·Memᴰ x xs → (x < length π) × T (accepts A (getD π x 0))
+  pub between : (x i y : ℕ) → List·Memᴰ x xs → List·Memᴰ y xs → x ≤ i → i ≤ y → T (not (accepts B (getD ρ i 0)))
+
+unfoldable pub Lags : Automaton → Automaton → List ℕ → List ℕ → ℕ → Type 0
+Lags A B π ρ j = (xs : List ℕ) × (length xs ≡ j) × Lagging A B π ρ xs
+
+pub record Largest (P : ℕ → Type 0) (n : ℕ) : Type 0 where
+  pub holds : P n
+  pub most : (m : ℕ) → P m → m ≤ n
+
+unfoldable pub LagIs : Automaton → Automaton → List ℕ → List ℕ → ℕ → Type 0
+LagIs A B π ρ n = Largest (Lags A B π ρ) n

@@ -1,0 +1,1 @@
+// Runs of Büchi automata: definitions and theorems only.
