@@ -1,0 +1,3 @@
+-- The computed dead states are the dead states.
+pub mod DeadRight
+pub mod WordDeadEnds

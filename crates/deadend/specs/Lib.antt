@@ -1,0 +1,2 @@
+-- Dead ends, computed (01, "Dead ends").
+pub mod DeadEnds

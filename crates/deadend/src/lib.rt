@@ -1,0 +1,160 @@
+// The dead-end test, with sets of states as words: what each state's transitions lead to, what paths of them lead to, the accepting
+// states that lie on a loop, and the reachable states that have no path to one.
+use automaton::Automaton;
+use automaton::next_target;
+ghost use mathlib.Core.Path.{_≡_};
+ghost use mathlib.Core.Bool.{false, _&&_, _||_, not};
+ghost use Prim.Native.Nat.{ℕ, _<_, _≤_};
+ghost use lib.Dec.{ltb};
+ghost use lib.ListN.{length, getD};
+ghost use Rattle.automaton.specs.Ranges.{some, table};
+ghost use Rattle.automaton.specs.Sets.{bit};
+ghost use Rattle.automaton.specs.Automata.{InRange};
+ghost use Rattle.automaton.specs.Members.{transitionIn};
+ghost use Rattle.sets.specs.Closure.{holdsRow};
+ghost use Rattle.deadend.specs.DeadEnds.{deadStates, hasDead};
+
+// The set, with the targets of q on letter a besides, listed lowest first.
+fn with_targets(transitions: &[u8; 2048], q: usize, a: usize, set: u32) -> u32
+    requires { ⌜ (q < 32) × (a < 16) ⌝ }
+    ensures { λ w. ⌜ ((r : ℕ) → r < 32 → bit w r ≡ (bit set r || transitionIn (now (transitions .entry)) q a r)) ⌝ }
+{
+    let mut found = set;
+    let mut t = next_target(transitions, q, a, 0);
+    while t < 32 {
+        found = sets::with_state(found, t);
+        t = next_target(transitions, q, a, t + 1);
+    }
+    found
+}
+
+// The targets of q on the first k letters.
+fn edges(transitions: &[u8; 2048], k: usize, q: usize) -> u32
+    requires { ⌜ (k ≤ 16) × (q < 32) ⌝ }
+    ensures { λ w. ⌜ ((r : ℕ) → r < 32 → bit w r ≡ some (λ a. transitionIn (now (transitions .entry)) q a r) k 0) ⌝ }
+{
+    let mut found: u32 = 0;
+    let mut a: usize = 0;
+    while a < k {
+        found = with_targets(transitions, q, a, found);
+        a += 1;
+    }
+    found
+}
+
+// Row q of the first n rows becomes the targets of q on the first k letters.
+fn edge_rows(transitions: &[u8; 2048], n: usize, k: usize, rows: &mut [u32])
+    requires { ⌜ (n ≤ 32) × (k ≤ 16) × (n ≤ length (now rows)) ⌝ }
+    ensures { λ _. ⌜
+        ((q r : ℕ) → q < n → r < 32
+        → holdsRow (now (rows .exit)) q r ≡ some (λ a. transitionIn (now (transitions .entry)) q a r) k 0)
+        ⌝ }
+{
+    let mut q: usize = 0;
+    while q < n {
+        rows[q] = edges(transitions, k, q);
+        q += 1;
+    }
+}
+
+// Whether q is accepting and its row, of what paths lead to, has q itself.
+fn loops_at(accepting: u32, row: u32, q: usize) -> bool
+    requires { ⌜ q < 32 ⌝ }
+    ensures { λ b. ⌜ b ≡ (bit accepting q && bit row q) ⌝ }
+{
+    if sets::holds(accepting, q) {
+        sets::holds(row, q)
+    } else {
+        false
+    }
+}
+
+// The accepting states of the first n that lie on a loop.
+fn on_loops(rows: &[u32], n: usize, accepting: u32) -> u32
+    requires { ⌜ (n ≤ 32) × (n ≤ length (now rows)) ⌝ }
+    ensures { λ w. ⌜ ((q : ℕ) → bit w q ≡ (ltb q n && (bit accepting q && holdsRow (now (rows .entry)) q q))) ⌝ }
+{
+    let mut found: u32 = 0;
+    let mut q: usize = 0;
+    while q < n {
+        found = sets::with_state_where(found, q, loops_at(accepting, rows[q], q));
+        q += 1;
+    }
+    found
+}
+
+// Whether q is reached, and what it reaches, its row, has none of the accepting states on loops.
+fn dead_at(reached: u32, loops: u32, row: u32, q: usize) -> bool
+    requires { ⌜ q < 32 ⌝ }
+    ensures { λ b. ⌜ b ≡ (bit reached q && not (some (λ r. bit row r && bit loops r) 32 0)) ⌝ }
+{
+    if sets::holds(reached, q) {
+        !sets::meets(row, loops)
+    } else {
+        false
+    }
+}
+
+// The states of the first n that are reached and reach none of the accepting states on loops.
+fn dead_among(rows: &[u32], n: usize, reached: u32, loops: u32) -> u32
+    requires { ⌜ (n ≤ 32) × (n ≤ length (now rows)) ⌝ }
+    ensures { λ w. ⌜
+        ((q : ℕ) → bit w q
+        ≡ (ltb q n && (bit reached q && not (some (λ r. holdsRow (now (rows .entry)) q r && bit loops r) 32 0))))
+        ⌝ }
+{
+    let mut found: u32 = 0;
+    let mut q: usize = 0;
+    while q < n {
+        found = sets::with_state_where(found, q, dead_at(reached, loops, rows[q], q));
+        q += 1;
+    }
+    found
+}
+
+// The set of dead states.
+pub fn dead_set(a: Automaton) -> u32
+    requires { ⌜ InRange a ⌝ }
+    ensures { λ w. ⌜ ((q : ℕ) → q < 32 → bit w q ≡ getD (deadStates a) q false) ⌝ }
+{
+    let transitions = a.transitions;
+    let accepting = a.accepting;
+    let n = a.states;
+    let initial = a.initial;
+    let mut rows = [0u32; 32];
+    edge_rows(&transitions, n, a.letters, &mut rows);
+    sets::close(&mut rows, n);
+    let loops = on_loops(&rows, n, sets::of_bytes(&accepting));
+    sets::add_diagonal(&mut rows, n);
+    let reached = rows[initial];
+    dead_among(&rows, n, reached, loops)
+}
+
+// For each of the 32 states whether the set has it.
+fn flags(set: u32) -> [bool; 32]
+    ensures { λ r. ⌜ r ≡ table (bit set) 32 0 ⌝ }
+{
+    let mut members = [false; 32];
+    let mut q: usize = 0;
+    while q < 32 {
+        members[q] = sets::holds(set, q);
+        q += 1;
+    }
+    members
+}
+
+// For each of the 32 states whether it is dead.
+pub fn dead_states(a: Automaton) -> [bool; 32]
+    requires { ⌜ InRange a ⌝ }
+    ensures { λ r. ⌜ r ≡ deadStates a ⌝ }
+{
+    flags(dead_set(a))
+}
+
+// Whether a state is dead.
+pub fn has_dead(a: Automaton) -> bool
+    requires { ⌜ InRange a ⌝ }
+    ensures { λ r. ⌜ r ≡ hasDead a ⌝ }
+{
+    sets::has_state(dead_set(a))
+}

@@ -1,0 +1,198 @@
+-- A record read in two parts, its bytes and then what it does to the automaton so far, is the record of the definition; and the cases
+-- of each part. Each law goes by the tests in their order. Assumes nothing.
+use mathlib.Core.Path.{_≡_, refl, sym, ap, subst, _∙_}
+use mathlib.Core.Bool.{Bool, true, false, cond, _&&_, not}
+use mathlib.Core.List.{List}
+use Prim.Native.Nat.{ℕ, _+_, _-_, _≤_, _<_}
+use native.Mathlib.Omega.{arith}
+use lib.Dec.{eqb, ltb}
+use lib.ListN.{length, getD}
+use borrow.Author.Tests.{le-leb, lt-leb, lt-ltb, le-ltb, eq-eqb, ne-eqb}
+use Rattle.automaton.specs.declared.Automaton.{Automaton}
+use Rattle.automaton.specs.Sets.{member}
+use Rattle.automaton.specs.Automata.{accepts, transition, bare, withAccepting, withTransition, headerValues}
+use Rattle.automaton.specs.Members.{transitionIn, withMember, withBitFor}
+use Rattle.automaton.proofs.InRange.{header-values-iff}
+use Rattle.automaton.proofs.Bits.{bare-header}
+use Rattle.file.specs.declared.Header.{Header}
+use Rattle.file.specs.declared.Cursor.{Cursor}
+use Rattle.file.specs.declared.Start.{Start}
+use Rattle.file.specs.declared.Start.the-variants.{NoHeader, Begins}
+use Rattle.file.specs.declared.Record.{Record}
+use Rattle.file.specs.declared.Record.the-variants.{Fault, Accepting, Transition, End}
+use Rattle.file.specs.declared.Progress.{Progress}
+use Rattle.file.specs.declared.Progress.the-variants.{Refused, Whole, Goes}
+use Rattle.file.specs.File.{Read, Step, over, next, refused, holds, check, has, marked, header, acceptingAt, transitionAt, endAt}
+use Rattle.file.specs.File.{recordAt, records, readFile}
+use Rattle.file.specs.Records.{wholeOf, startStep, checkRecord, acceptingRecord, transitionRecord, endRecord, recordIn, takes}
+use Rattle.file.specs.Records.{progressStep, readPast, leftBy, Taken}
+use Rattle.file.proofs.RecordSteps.{HeaderStep, no-header, starts, header-step, record-advances}
+use Rattle.file.proofs.RecordSteps.{readAfter, read-file, read-over, read-next}
+
+-- The two parts together.
+
+takes-check : (c : Bool) (n : ℕ) (x : Record) (A : Automaton) → takes (checkRecord c n x) A ≡ check c n (takes x A)
+unfolding takes
+takes-check true n x A = refl
+takes-check false n x A = refl
+
+pub record-takes : (s : List ℕ) (i : ℕ) (A : Automaton) → recordAt s i A ≡ takes (recordIn s i) A
+unfolding recordAt recordIn acceptingAt transitionAt endAt takes
+record-takes s i A =
+    sym
+    (takes-check (has s i 2) 1 _ A
+    ∙ ap (check (has s i 2) 1)
+    (either (marked s i 0x46) (acceptingRecord s i) _ (takes-check (has s i 3) 1 _ A)
+    (either (marked s i 0x54) (transitionRecord s i) _ (takes-check (has s i 5) 1 _ A)
+    (either (marked s i 0x45) (endRecord s i) (Fault 2) (takes-check (eqb (length s) (i + 2)) 2 End A) refl))))
+  where
+    either : (c : Bool) (x y : Record) {u v : Step} → takes x A ≡ u → takes y A ≡ v → takes (cond c x y) A ≡ cond c u v
+    either true x y p q = p
+    either false x y p q = q
+
+-- with x the record that was read
+pub record-is : (s : List ℕ) (i : ℕ) (A : Automaton) (x y : Record) → x ≡ recordIn s i → x ≡ y → recordAt s i A ≡ takes y A
+record-is s i A x y d e = record-takes s i A ∙ ap (λ (z : Record). takes z A) (sym d ∙ e)
+
+-- what a record came to, with B left of A
+pub taken : {x : Step} (p : Progress) {A B : Automaton} → x ≡ progressStep p B → leftBy (progressStep p B) A ≡ B → Taken x p A B
+taken p {A} e l = record { step = e; left = sym (ap (λ y. leftBy y A) e ∙ l) }
+
+pub record-taken : (s : List ℕ) (i : ℕ) (A : Automaton) (x y : Record) {p : Progress} {B : Automaton} → x ≡ recordIn s i → x ≡ y
+    → Taken (takes y A) p A B → Taken (recordAt s i A) p A B
+record-taken s i A x y {p} {B} d e h = subst (λ (z : Step). Taken z p A B) (sym (record-is s i A x y d e)) h
+
+-- The header.
+
+module _ (s : List ℕ) where
+  pub header-short : length s < 2 → header s ≡ over (refused 1)
+  unfolding header
+  header-short h = rw (lt-leb 2 (length s) h)
+
+  pub header-unmarked : 2 ≤ length s → marked s 0 0x48 ≡ false → header s ≡ over (refused 2)
+  unfolding header
+  header-unmarked h e = rw (le-leb 2 (length s) h, e)
+
+  module _ (e : marked s 0 0x48 ≡ true) where
+    pub header-cut : 2 ≤ length s → length s < 5 → header s ≡ over (refused 1)
+    unfolding header
+    header-cut h l = rw (le-leb 2 (length s) h, e, lt-leb 5 (length s) l)
+
+    -- with its values n, k and i read, v says whether they are in their ranges
+    pub header-values : (n k i : ℕ) (v : Bool) → 5 ≤ length s → n ≡ getD s 2 0 → k ≡ getD s 3 0 → i ≡ getD s 4 0
+        → v ≡ headerValues n k i → header s ≡ check v 3 (next 5 (bare n k i))
+    unfolding header
+    header-values n k i v h p q r d =
+        rw (le-leb 2 (length s) (omega arith), e, le-leb 5 (length s) h, d, p, q, r)
+
+-- The bytes.
+
+module _ (s : List ℕ) (i : ℕ) where
+  pub record-short : length s - i < 2 → recordIn s i ≡ Fault 1
+  unfolding recordIn
+  record-short h = rw (lt-leb (i + 2) (length s) (omega arith))
+
+  module _ (h : i + 2 ≤ length s) where
+    pub record-unmarked : (getD s i 0 ≡ 0x41 → ⊥) → recordIn s i ≡ Fault 2
+    unfolding recordIn
+    record-unmarked e = rw (le-leb (i + 2) (length s) h, ne-eqb (getD s i 0) 0x41 e)
+
+    module _ (e : getD s i 0 ≡ 0x41) where
+      pub record-unknown : (getD s (i + 1) 0 ≡ 0x46 → ⊥) → (getD s (i + 1) 0 ≡ 0x54 → ⊥) → (getD s (i + 1) 0 ≡ 0x45 → ⊥)
+          → recordIn s i ≡ Fault 2
+      unfolding recordIn
+      record-unknown x y z =
+          let b = getD s (i + 1) 0 in
+          rw (le-leb (i + 2) (length s) h, e, ne-eqb b 0x46 x, ne-eqb b 0x54 y, ne-eqb b 0x45 z)
+
+      pub record-accepting : getD s (i + 1) 0 ≡ 0x46 → recordIn s i ≡ acceptingRecord s i
+      unfolding recordIn
+      record-accepting d = rw (le-leb (i + 2) (length s) h, e, d)
+
+      pub record-transition : getD s (i + 1) 0 ≡ 0x54 → recordIn s i ≡ transitionRecord s i
+      unfolding recordIn
+      record-transition d = rw (le-leb (i + 2) (length s) h, e, d)
+
+      pub record-end : getD s (i + 1) 0 ≡ 0x45 → recordIn s i ≡ endRecord s i
+      unfolding recordIn
+      record-end d = rw (le-leb (i + 2) (length s) h, e, d)
+
+-- What a record does.
+
+module _ (h : Header) (s t : List ℕ) (c : Cursor) where
+  module _ (q : ℕ) where
+    pub takes-unknown-state : h .states ≤ q → takes (Accepting q c) (wholeOf h s t) ≡ over (refused 4)
+    unfolding takes
+    takes-unknown-state l = rw (le-ltb q (h .states) l)
+
+    module _ (l : q < h .states) where
+      pub takes-repeated-state : member s q ≡ true → takes (Accepting q c) (wholeOf h s t) ≡ over (refused 5)
+      unfolding takes accepts
+      takes-repeated-state e = rw (lt-ltb q (h .states) l, e)
+
+      pub takes-state : member s q ≡ false → takes (Accepting q c) (wholeOf h s t) ≡ next (c .at) (wholeOf h (withMember s q) t)
+      unfolding takes accepts withAccepting
+      takes-state e = rw (lt-ltb q (h .states) l, e)
+
+  module _ (q a r : ℕ) where
+    pub takes-unknown : (ltb q (h .states) && ltb a (h .letters) && ltb r (h .states)) ≡ false
+        → takes (Transition q a r c) (wholeOf h s t) ≡ over (refused 4)
+    unfolding takes
+    takes-unknown e = rw e
+
+    module _ (e : (ltb q (h .states) && ltb a (h .letters) && ltb r (h .states)) ≡ true) where
+      pub takes-repeated : transitionIn t q a r ≡ true → takes (Transition q a r c) (wholeOf h s t) ≡ over (refused 5)
+      unfolding takes transition
+      takes-repeated d = rw (e, d)
+
+      pub takes-transition : transitionIn t q a r ≡ false
+          → takes (Transition q a r c) (wholeOf h s t) ≡ next (c .at) (wholeOf h s (withBitFor t q a r))
+      unfolding takes transition withTransition
+      takes-transition d = rw (e, d)
+
+-- The reading goes on after a record, or is over. A whole reading w, of which A is what stands before position i, goes by what the record
+-- at i comes to: p, with B the automaton after it.
+
+module _ (s : List ℕ) (i : ℕ) (A B : Automaton) (p : Progress) (w : Read) (inv : w ≡ readAfter s (next i A))
+    (e : recordAt s i A ≡ progressStep p B) where
+  reading-goes-on : {q : Progress} → p ≡ q → w ≡ readAfter s (progressStep q B)
+  reading-goes-on d = inv ∙ read-next s i A ∙ ap (readAfter s) (e ∙ ap (λ (x : Progress). progressStep x B) d)
+
+  pub reading-refused : (n : ℕ) → p ≡ Refused n → w ≡ refused n
+  reading-refused n d = reading-goes-on d ∙ read-over s (refused n)
+
+  pub reading-ends : p ≡ Whole → w ≡ holds B
+  reading-ends d = reading-goes-on d ∙ read-over s (holds B)
+
+  pub reading-advances : (c : Cursor) → p ≡ Goes c → (i + 3 ≤ c .at) × (c .at ≤ length s) × (w ≡ readAfter s (next (c .at) B))
+  reading-advances c d =
+      let a = record-advances s i (c .at) A B (e ∙ ap (λ (x : Progress). progressStep x B) d) in
+      (a .0, a .1, reading-goes-on d)
+
+-- What a header that is there says of its file.
+
+abbrev Starts : List ℕ → Step → Type 0
+Starts s (over r) = Unit {0}
+Starts s (next j A) = (A .states ≤ 32) × (A .letters ≤ 16) × (5 ≤ length s)
+
+header-starts : {s : List ℕ} {x : Step} → HeaderStep s x → Starts s x
+header-starts (no-header l m) = tt
+header-starts {s} (starts m f v) =
+    let b = header-values-iff (getD s 2 0) (getD s 3 0) (getD s 4 0) .0 v in
+    let h = bare-header (getD s 2 0) (getD s 3 0) (getD s 4 0) in
+    (omega (arith, h .0, b .1), omega (arith, h .1, b .3), f)
+
+pub header-holds : (s : List ℕ) (x : Start) (h : Header) → startStep x ≡ header s → x ≡ Begins h
+    → (h .states ≤ 32) × (h .letters ≤ 16) × (5 ≤ length s)
+header-holds s x h d e =
+    let r = subst (Starts s) (sym d ∙ ap startStep e) (header-starts (header-step s)) in
+    let b = bare-header (h .states) (h .letters) (h .initial) in
+    (omega (arith, b .0, r .0), omega (arith, b .1, r .1), r .2)
+
+pub reading-starts : (s : List ℕ) (x : Start) (h : Header) → startStep x ≡ header s → x ≡ Begins h
+    → readFile s ≡ readPast s h
+unfolding readFile readPast
+reading-starts s x h d e = ap (records (length s) s) (sym d ∙ ap startStep e)
+
+pub reading-unstarted : (s : List ℕ) (x : Start) (n : ℕ) → startStep x ≡ header s → x ≡ NoHeader n → readFile s ≡ refused n
+reading-unstarted s x n d e = read-file s ∙ ap (readAfter s) (sym d ∙ ap startStep e) ∙ read-over s (refused n)

@@ -1,0 +1,3 @@
+-- The file (01, "The file").
+pub mod File
+pub mod Records
