@@ -1,0 +1,6 @@
+-- Laws of vertices and slots.
+pub mod Vertices
+pub mod Compared
+pub mod SlotLayout
+pub mod Chains
+pub mod Words

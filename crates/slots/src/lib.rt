@@ -1,0 +1,221 @@
+// Vertices of the lag-checking graph, and the slots of the work buffer that hold them. Only this crate knows a slot's layout.
+ghost use mathlib.Core.Path.{_≡_};
+ghost use mathlib.Core.List.{_++_};
+ghost use Prim.Native.Nat.{_+_, _*_, _<_, _≤_};
+ghost use lib.ListN.{length, getD, set, drop};
+ghost use Rattle.slots.specs.Slots.{slotCount, slotSize, maxSlots, sameVertex, allZero, slotBytes};
+ghost use Rattle.slots.specs.Bytes.{stored, vertexAt, letterAt, parentAt, lastBelow, hashes, hashOf, Indexed, Falls, wordAt};
+
+// The bytes of a slot.
+pub const SLOT_SIZE: usize = 40;
+
+// The most slots that a walk uses.
+pub const MAX_SLOTS: usize = 4096;
+
+// A left state, and the counters of all 32 right-hand states.
+pub struct Vertex {
+    pub left: u8,
+    pub counters: [u8; 32],
+}
+
+// The slot that holds a vertex, where one does.
+pub enum Found {
+    At(usize),
+    Nothing,
+}
+
+// The number of slots of a work buffer of len bytes.
+pub fn slot_count(len: usize) -> usize
+    ensures { λ r. ⌜ r ≡ slotCount len ⌝ }
+{
+    let whole = len / SLOT_SIZE;
+    if whole < MAX_SLOTS { whole } else { MAX_SLOTS }
+}
+
+// Whether all counters are 0, which makes a vertex final.
+pub fn is_final(counters: [u8; 32]) -> bool
+    ensures { λ r. ⌜ r ≡ allZero counters ⌝ }
+{
+    let mut i: usize = 0;
+    while i < 32 {
+        if counters[i] != 0 {
+            return false;
+        }
+        i += 1;
+    }
+    true
+}
+
+// Writes a slot to the front of the part that is lent.
+pub fn put_slot(part: &mut [u8], v: Vertex, letter: u8, parent: usize)
+    requires { ⌜ (slotSize ≤ length (now part)) × (parent < 65536) ⌝ }
+    ensures { λ _. ⌜ now (part .exit) ≡ slotBytes v letter parent ++ drop slotSize (now (part .entry)) ⌝ }
+{
+    part[0] = v.left;
+    let mut i: usize = 0;
+    while i < 32 {
+        part[1 + i] = v.counters[i];
+        i += 1;
+    }
+    part[33] = letter;
+    part[34] = (parent % 256) as u8;
+    part[35] = (parent / 256) as u8;
+    part[36] = 0;
+    part[37] = 0;
+    part[38] = 0;
+    part[39] = 0;
+}
+
+// Writes slot s of the work buffer, which is lent to the slot writer from that slot's offset on.
+pub fn store(work: &mut [u8], s: usize, v: Vertex, letter: u8, parent: usize)
+    requires { ⌜ (s < slotCount (length (now work))) × (parent < 65536) ⌝ }
+    ensures { λ _. ⌜ now (work .exit) ≡ stored (now (work .entry)) s v letter parent ⌝ }
+{
+    let at = s * SLOT_SIZE;
+    put_slot(&mut work[at..], v, letter, parent);
+}
+
+// The vertex in slot s.
+pub fn load(work: &[u8], s: usize) -> Vertex
+    requires { ⌜ s < slotCount (length (now work)) ⌝ }
+    ensures { λ r. ⌜ r ≡ vertexAt (now (work .entry)) s ⌝ }
+{
+    let at = s * SLOT_SIZE;
+    let from = at + 1;
+    let mut counters = [0u8; 32];
+    let mut i: usize = 0;
+    while i < 32 {
+        counters[i] = work[from + i];
+        i += 1;
+    }
+    Vertex {
+        left: work[at],
+        counters,
+    }
+}
+
+// Whether slot s holds the vertex.
+pub fn holds(work: &[u8], s: usize, v: Vertex) -> bool
+    requires { ⌜ s < slotCount (length (now work)) ⌝ }
+    ensures { λ r. ⌜ r ≡ sameVertex v (vertexAt (now (work .entry)) s) ⌝ }
+{
+    let at = s * SLOT_SIZE;
+    if v.left != work[at] {
+        return false;
+    }
+    let from = at + 1;
+    let mut r: usize = 0;
+    while r < 32 {
+        if v.counters[r] != work[from + r] {
+            return false;
+        }
+        r += 1;
+    }
+    true
+}
+
+// The hash of a vertex.
+pub fn hash(v: Vertex) -> usize
+    ensures { λ r. ⌜ (r ≡ hashOf v) × (r < hashes) ⌝ }
+{
+    let mut h = v.left as usize;
+    let mut i: usize = 0;
+    while i < 32 {
+        let x = v.counters[i] as usize;
+        h = (h * 31 + x) % 1024;
+        i += 1;
+    }
+    h
+}
+
+// The last of the first n slots that holds the vertex: it lies on the chain of the vertex's hash.
+pub fn find(work: &[u8], heads: &[u16], nexts: &[u16], n: usize, v: Vertex) -> Found
+    requires { ⌜ (n ≤ slotCount (length (now work))) × Indexed (now work) (now heads) (now nexts) n ⌝ }
+    ensures { λ r. ⌜ r ≡ lastBelow (now (work .entry)) v n ⌝ }
+{
+    let h = hash(v);
+    let mut c = heads[h] as usize;
+    while c > 0 {
+        let s = c - 1;
+        if holds(work, s, v) {
+            return Found::At(s);
+        }
+        c = nexts[s] as usize;
+    }
+    Found::Nothing
+}
+
+// Makes slot n, whose vertex has the hash h, the first of the chain of h.
+fn link(heads: &mut [u16], nexts: &mut [u16], n: usize, h: usize)
+    requires { ⌜ (h < length (now heads)) × (n < length (now nexts)) × (n < maxSlots) ⌝ }
+    ensures head { λ _. ⌜ now (heads .exit) ≡ set (now (heads .entry)) h (n + 1) ⌝ }
+    ensures next { λ _. ⌜ now (nexts .exit) ≡ set (now (nexts .entry)) n (getD (now (heads .entry)) h 0) ⌝ }
+{
+    nexts[n] = heads[h];
+    heads[h] = (n + 1) as u16;
+}
+
+// Writes the next free slot, n, and puts it on the chain of its hash.
+pub fn append(
+    work: &mut [u8],
+    heads: &mut [u16],
+    nexts: &mut [u16],
+    n: usize,
+    v: Vertex,
+    letter: u8,
+    parent: usize,
+)
+    requires { ⌜ (n < slotCount (length (now work))) × (parent < 65536) × Indexed (now work) (now heads) (now nexts) n ⌝ }
+    ensures bytes { λ _. ⌜ now (work .exit) ≡ stored (now (work .entry)) n v letter parent ⌝ }
+    ensures index { λ _. ⌜ Indexed (now (work .exit)) (now (heads .exit)) (now (nexts .exit)) (n + 1) ⌝ }
+{
+    store(work, n, v, letter, parent);
+    link(heads, nexts, n, hash(v));
+}
+
+// The letter in slot s.
+pub fn letter_of(work: &[u8], s: usize) -> u8
+    requires { ⌜ s < slotCount (length (now work)) ⌝ }
+    ensures { λ r. ⌜ r ≡ letterAt (now (work .entry)) s ⌝ }
+{
+    work[s * SLOT_SIZE + 33]
+}
+
+// The number of the slot from which the vertex in slot s was found.
+pub fn parent_of(work: &[u8], s: usize) -> usize
+    requires { ⌜ s < slotCount (length (now work)) ⌝ }
+    ensures { λ r. ⌜ r ≡ parentAt (now (work .entry)) s ⌝ }
+{
+    let at = s * SLOT_SIZE;
+    let low = work[at + 34] as usize;
+    let high = work[at + 35] as usize;
+    low + high * 256
+}
+
+// The number of letters on the way to slot s.
+pub fn word_length(work: &[u8], s: usize) -> usize
+    requires { ⌜ (s < slotCount (length (now work))) × Falls (now work) s ⌝ }
+    ensures { λ r. ⌜ r ≡ length (wordAt (now (work .entry)) s) ⌝ }
+{
+    let mut n: usize = 0;
+    let mut at = s;
+    while at > 0 {
+        at = parent_of(work, at);
+        n += 1;
+    }
+    n
+}
+
+// Writes the letters on the way to slot s to the front of word, first letter first, and answers how many there are.
+pub fn read_back(work: &[u8], s: usize, word: &mut [u8]) -> usize
+    requires { ⌜ (s < slotCount (length (now work))) × Falls (now work) s × (length (wordAt (now work) s) ≤ length (now word)) ⌝ }
+    ensures count { λ r. ⌜ r ≡ length (wordAt (now (work .entry)) s) ⌝ }
+    ensures letters { λ r. ⌜ now (word .exit) ≡ wordAt (now (work .entry)) s ++ drop r (now (word .entry)) ⌝ }
+{
+    if s == 0 {
+        return 0;
+    }
+    let n = read_back(work, parent_of(work, s), word);
+    word[n] = letter_of(work, s);
+    n + 1
+}

@@ -1,0 +1,153 @@
+-- The word of the final vertex is read in the slots: the slots hold the listed nodes, whose parents have lower places, so the
+-- parents' letters in the slots spell the word of the definition. Assumes nothing.
+use mathlib.Core.Path.{_≡_, refl, sym, _∙_, ap, ap₂, subst}
+use mathlib.Core.Bool.{Bool, cond}
+use mathlib.Core.List.{List, [], _∷_, _++_}
+use Prim.Native.Nat.{ℕ, zero, suc, _+_, _≤_, _<_}
+use native.Mathlib.Omega.{arith}
+use borrow.Author.Tests.{le-leb, lt-leb}
+use lib.ListN.{length, getD, set, drop, length-append}
+use Rattle.automaton.specs.Automata.{maxStates}
+use Rattle.slots.specs.declared.Vertex.{Vertex}
+use Rattle.slots.specs.Slots.{slotCount}
+use Rattle.slots.specs.Bytes.{letterAt, parentAt, Falls, backFrom, wordAt}
+use Rattle.slots.proofs.Words.{letter-put}
+use Rattle.walk.specs.declared.Walked.the-variants.{Differs}
+use Rattle.walk.specs.Discovery.{Graph, Node, ended, root, at, back, wordTo}
+use Rattle.walk.specs.LagGraph.{lagGraph}
+use Rattle.walk.specs.Walks.{wordOf, Fits}
+use Rattle.walk.specs.Shown.{Wide, Shown, FoundFinal, wordAfter, WordRead}
+use Rattle.walk.proofs.Visits.{at-left, at-last, length-snoc}
+use Rattle.walk.proofs.Parents.{Linked}
+use Rattle.walk.proofs.Words.{word-step}
+use Rattle.walk.proofs.WalkTheorem.{walk-ended, list-links, list-in-range}
+use Rattle.walk.proofs.ShownSlots.{slot-shown, shown-length}
+
+all-wide : (ns : List (Node Vertex)) (d : Node Vertex) → ((i : ℕ) → i < length ns → length (getD ns i d .vertex .counters) ≡ maxStates)
+    → Wide ns
+all-wide [] d h = tt
+all-wide (n ∷ ns) d h = (h 0 (omega arith), all-wide ns d (λ i l. h (suc i) (omega arith)))
+
+module _ (work : List ℕ) (place letter parent : ℕ) (E : FoundFinal work place letter parent) where
+  abbrev graph : Graph
+  graph = lagGraph (E .left) (E .right) (E .bound)
+
+  -- the list, with the final vertex
+  abbrev list : List (Node Vertex)
+  list = E .nodes ++ E .last ∷ []
+
+  fits : Fits (E .left) (E .right) (E .bound) (slotCount (length (E .start))) (ended (E .nodes) (E .last))
+  fits = walk-ended (E .left) (E .right) (E .bound) (slotCount (length (E .start))) (E .nodes) (E .last) .0 (E .walked)
+
+  links : (p : ℕ) × Linked graph p list
+  links = list-links (E .left) (E .right) (E .bound) (slotCount (length (E .start))) (ended (E .nodes) (E .last)) fits
+
+  long : length list ≡ length (E .nodes) + 1
+  long = length-snoc graph (E .nodes) (E .last)
+
+  wide : Wide (E .nodes)
+  wide =
+      all-wide (E .nodes) (root graph)
+      (λ i h.
+      ap (λ (n : Node Vertex). length (n .vertex .counters)) (sym (at-left graph (E .nodes) (E .last ∷ []) i h))
+      ∙ list-in-range (E .left) (E .right) (E .bound) (slotCount (length (E .start))) (E .in-range .initial-below)
+      (ended (E .nodes) (E .last)) fits i
+      (omega (arith, long)) .all-counters)
+
+  shown : Shown work (Differs place letter parent) (E .start) (ended (E .nodes) (E .last))
+  shown =
+      record {
+        answer = ap₂ (λ (x : ℕ × ℕ) (p : ℕ). Differs (x .0) (x .1) p) (ap₂ (λ (x y : ℕ). (x, y)) (E .place-is) (E .letter-is))
+            (E .parent-is);
+        bytes = E .bytes;
+        wide = wide;
+        room = fits .room;
+      }
+
+  slot : (i : ℕ) → i < length (E .nodes) → (letterAt work i ≡ at graph list i .letter) × (parentAt work i ≡ at graph list i .parent)
+  slot i h =
+      let s = slot-shown (E .left) (E .right) (E .bound) work (Differs place letter parent) (E .start) (ended (E .nodes) (E .last)) shown
+      i h in
+      let q = at-left graph (E .nodes) (E .last ∷ []) i h in
+      (s .1 ∙ ap (λ (n : Node Vertex). n .letter) (sym q), s .2 ∙ ap (λ (n : Node Vertex). n .parent) (sym q))
+
+  falls : (i : ℕ) → 0 < i → i < length list → at graph list i .parent < i
+  falls = links .1 .falls
+
+  final-node : at graph list place ≡ E .last
+  final-node = at-last graph (E .nodes) (E .last) place (E .place-is)
+
+  below : 0 < place → parent < place
+  below h =
+      let f = falls place h (omega (arith, long, E .place-is)) in
+      let e : at graph list place .parent ≡ parent = ap (λ (n : Node Vertex). n .parent) final-node ∙ sym (E .parent-is) in
+      omega arith
+
+  pub parent-slot : 0 < place → parent < slotCount (length work)
+  parent-slot h =
+      let l = ap slotCount (shown-length work (Differs place letter parent) (E .start) (ended (E .nodes) (E .last)) shown) in
+      omega (arith, below h, E .place-is, fits .room)
+
+  pub parents-fall : 0 < place → Falls work parent
+  parents-fall h i a b =
+      let l : i < length (E .nodes) = omega (arith, below h, E .place-is) in
+      subst (λ (p : ℕ). p < i) (sym (slot i l .1)) (falls i a (omega (arith, long)))
+
+  back-shown : (k i : ℕ) → i < length (E .nodes) → backFrom k work i ≡ back graph k list i
+  back-shown zero i h = refl
+  back-shown (suc k) zero h = refl
+  back-shown (suc k) (suc i) h =
+      let s = slot (suc i) h in
+      let f = falls (suc i) (omega arith) (omega (arith, long)) in
+      ap₂ (λ (l : List ℕ) (a : ℕ). l ++ a ∷ [])
+      (ap (backFrom k work) (s .1) ∙ back-shown k (at graph list (suc i) .parent) (omega arith)) (s .0)
+
+  pub final-empty : place ≡ 0 → wordOf (E .left) (E .right) (E .bound) (E .nodes) (E .last) ≡ []
+  unfolding wordOf
+  final-empty e = let q : length (E .nodes) ≡ 0 = sym (E .place-is) ∙ e in rw q
+
+  pub final-word : 0 < place → wordOf (E .left) (E .right) (E .bound) (E .nodes) (E .last) ≡ wordAt work parent ++ letter ∷ []
+  unfolding wordOf wordAt
+  final-word h =
+      ap (wordTo graph list) (sym (E .place-is))
+      ∙ word-step graph (links .0) list (links .1) place (omega (arith, long, E .place-is)) h
+      ∙ ap (λ (n : Node Vertex). wordTo graph list (n .parent) ++ n .letter ∷ []) final-node
+      ∙ ap₂ (λ (p a : ℕ). wordTo graph list p ++ a ∷ []) (sym (E .parent-is)) (sym (E .letter-is))
+      ∙ ap (λ (l : List ℕ). l ++ letter ∷ []) (sym (back-shown parent parent (omega (arith, below h, E .place-is))))
+
+  -- What the code has read.
+
+  pub read-none : (word : List ℕ) → place ≡ 0 → WordRead work place letter parent word 0 word E
+  read-none word e =
+      record {
+        count = sym (ap length (final-empty e));
+        letters = sym (ap (wordAfter word) (final-empty e) ∙ ap (λ (c : Bool). cond c word word) (le-leb 0 (length word) (omega arith)));
+      }
+
+  module _ (word : List ℕ) (n : ℕ) (h : 0 < place) (before : n ≡ length (wordAt work parent)) where
+    size : length (wordAt work parent ++ letter ∷ []) ≡ n + 1
+    size = length-append (wordAt work parent) (letter ∷ []) ∙ ap (λ (k : ℕ). k + 1) (sym before)
+
+    pub read-short : length word ≤ n → WordRead work place letter parent word (n + 1) word E
+    read-short l =
+        let w = wordAt work parent ++ letter ∷ [] in
+        record {
+          count = sym (ap length (final-word h) ∙ size);
+          letters = sym (ap (wordAfter word) (final-word h) ∙ ap (λ (c : Bool). cond c (w ++ drop (length w) word) word)
+              (lt-leb (length w) (length word) (omega (arith, size))));
+        }
+
+    pub read-written : n < length word → (last : List ℕ) (k : ℕ) → k ≡ length (wordAt work parent) → last
+        ≡ wordAt work parent ++ drop k word
+        → WordRead work place letter parent word (n + 1) (set last k letter) E
+    read-written l last k q e =
+        let w = wordAt work parent ++ letter ∷ [] in
+        let d : length w ≡ k + 1 = size ∙ ap (λ (j : ℕ). j + 1) (before ∙ sym q) in
+        record {
+          count = sym (ap length (final-word h) ∙ size);
+          letters =
+              letter-put (wordAt work parent) word last k letter q (omega (arith, q, before)) e
+              ∙ ap (λ (j : ℕ). w ++ drop j word) (sym d)
+              ∙ sym (ap (wordAfter word) (final-word h) ∙ ap (λ (c : Bool). cond c (w ++ drop (length w) word) word)
+              (le-leb (length w) (length word) (omega (arith, size))));
+        }

@@ -1,0 +1,202 @@
+-- The slots of a work buffer that shows a walk: each holds its node, so that the search of the slots answers whether a vertex is
+-- listed, and a slot written behind them shows the list with one node more. Assumes nothing.
+use mathlib.Core.Path.{_≡_, refl, sym, _∙_, ap, ap₂, subst}
+use mathlib.Core.Bool.{Bool, true, false, _||_}
+use mathlib.Core.Logic.{⊎-elim}
+use mathlib.Core.List.{List, [], _∷_, _++_, flatMap, append-assoc, append-nil}
+use Prim.Native.Nat.{ℕ, zero, suc, _+_, _-_, _*_, _≤_, _<_}
+use native.Mathlib.Nat.{add-zero, zero-add, eq-or-lt-of-le}
+use native.Mathlib.Omega.{arith}
+use borrow.Author.Tests.{lt-ltb, le-ltb}
+use lib.Dec.{T}
+use lib.ListN.{length, drop, length-append, length-drop}
+use lib.Seq.{take-at, drop-at, drop-drop}
+use Rattle.automaton.specs.declared.Automaton.{Automaton}
+use Rattle.automaton.specs.Automata.{maxStates}
+use Rattle.automaton.proofs.Tests.{or-left, or-right, T-true}
+use Rattle.slots.specs.declared.Vertex.{Vertex}
+use Rattle.slots.specs.declared.Found.the-variants.{At, Nothing}
+use Rattle.slots.specs.Slots.{slotSize, slotCount, slotBytes, sameVertex, allZero}
+use Rattle.slots.specs.Bytes.{stored, vertexAt, letterAt, parentAt, lastBelow, Indexed}
+use Rattle.slots.proofs.SlotLayout.{slot-long, vertex-read, letter-read, parent-read, slot-passed, stored-long, stored-vertex, stored-below}
+use Rattle.slots.proofs.Chains.{last-found, last-absent}
+use Rattle.walk.specs.declared.Walked.{Walked}
+use Rattle.walk.specs.declared.Walked.the-variants.{Contained, Differs, Full}
+use Rattle.walk.specs.Discovery.{Node, Walk, going, nodesOf, node, below, listed, visit, at}
+use Rattle.walk.specs.LagGraph.{lagGraph}
+use Rattle.walk.specs.Walks.{slotsOf, workAfter}
+use Rattle.walk.specs.Shown.{Wide, Shown, Ready}
+
+abbrev slotOf : Node Vertex → List ℕ
+slotOf n = slotBytes (n .vertex) (n .letter) (n .parent)
+
+slots-long : (ns : List (Node Vertex)) → Wide ns → length (slotsOf ns) ≡ slotSize * length ns
+unfolding slotsOf flatMap
+slots-long [] w = refl
+slots-long (n ∷ ns) w =
+    omega (arith, length-append (slotOf n) (slotsOf ns), slot-long (n .vertex) (n .letter) (n .parent) (w .0), slots-long ns (w .1))
+
+slots-more : (ns : List (Node Vertex)) (n : Node Vertex) → slotsOf (ns ++ n ∷ []) ≡ slotsOf ns ++ slotOf n
+unfolding slotsOf flatMap
+slots-more [] n = append-nil (slotOf n)
+slots-more (m ∷ ns) n = ap (λ (l : List ℕ). slotOf m ++ l) (slots-more ns n) ∙ sym (append-assoc (slotOf m) (slotsOf ns) (slotOf n))
+
+wide-more : (ns : List (Node Vertex)) (n : Node Vertex) → Wide ns → length (n .vertex .counters) ≡ maxStates → Wide (ns ++ n ∷ [])
+wide-more [] n w l = (l, tt)
+wide-more (m ∷ ns) n w l = (w .0, wide-more ns n (w .1) l)
+
+-- the slots fit the work buffer
+slots-fit : (k len : ℕ) → k ≤ slotCount len → slotSize * k ≤ len
+slots-fit k len h = omega arith
+
+module _ (work : List ℕ) (r : Walked) (start : List ℕ) (w : Walk Vertex) (S : Shown work r start w) where
+  pub shown-length : length work ≡ length start
+  unfolding workAfter
+  shown-length =
+      let k = length (nodesOf w) in
+      ap length (S .bytes) ∙ length-append (slotsOf (nodesOf w)) (drop (slotSize * k) start)
+      ∙ omega (arith, slots-long (nodesOf w) (S .wide), length-drop (slotSize * k) start, slots-fit k (length start) (S .room))
+
+-- one slot more behind those of the list
+stored-bytes : (start : List ℕ) (ns : List (Node Vertex)) (m : Node Vertex) → Wide ns
+    → stored (workAfter start (going ns)) (length ns) (m .vertex) (m .letter) (m .parent) ≡ workAfter start (going (ns ++ m ∷ []))
+unfolding stored workAfter
+stored-bytes start ns m w =
+    let k = length ns in
+    let X = slotsOf ns in
+    let D = drop (slotSize * k) start in
+    let e : length X ≡ k * slotSize = omega (arith, slots-long ns w) in
+    let q : slotSize * k + slotSize ≡ slotSize * length (ns ++ m ∷ []) = omega (arith, length-append ns (m ∷ [])) in
+    let rest : drop (k * slotSize + slotSize) (X ++ D) ≡ drop (slotSize * length (ns ++ m ∷ [])) start =
+    sym (drop-drop slotSize (k * slotSize) (X ++ D)) ∙ ap (drop slotSize) (drop-at X D (k * slotSize) e)
+    ∙ drop-drop slotSize (slotSize * k) start ∙ ap (λ (j : ℕ). drop j start) q in
+    ap₂ (λ (x y : List ℕ). x ++ (slotOf m ++ y)) (take-at X D (k * slotSize) e) rest
+    ∙ sym (append-assoc X (slotOf m) (drop (slotSize * length (ns ++ m ∷ [])) start))
+    ∙ ap (λ (x : List ℕ). x ++ drop (slotSize * length (ns ++ m ∷ [])) start) (sym (slots-more ns m))
+
+-- before the first visit
+pub shown-none : (work : List ℕ) → Shown work (Contained 0) work (going [])
+unfolding workAfter slotsOf flatMap
+shown-none work = record { answer = refl; bytes = refl; wide = tt; room = omega arith }
+
+module _ (A B : Automaton) (b : ℕ) where
+  slot-from : (work : List ℕ) (ms : List (Node Vertex)) (rest : List ℕ) (s i : ℕ) → Wide ms
+      → drop (s * slotSize) work ≡ slotsOf ms ++ rest → i < length ms
+      → (vertexAt work (s + i) ≡ at (lagGraph A B b) ms i .vertex) × (letterAt work (s + i) ≡ at (lagGraph A B b) ms i .letter)
+      × (parentAt work (s + i) ≡ at (lagGraph A B b) ms i .parent)
+  unfolding slotsOf flatMap
+  slot-from work [] rest s i w e h = absurd (omega arith)
+  slot-from work (m ∷ ms) rest s zero w e h =
+      let d : drop (s * slotSize) work ≡ slotOf m ++ (slotsOf ms ++ rest) = e ∙ append-assoc (slotOf m) (slotsOf ms) rest in
+      rw (add-zero s) (
+        vertex-read work s (m .vertex) (m .letter) (m .parent) (slotsOf ms ++ rest) d (w .0),
+        letter-read work s (m .vertex) (m .letter) (m .parent) (slotsOf ms ++ rest) d (w .0),
+        parent-read work s (m .vertex) (m .letter) (m .parent) (slotsOf ms ++ rest) d (w .0),
+      )
+  slot-from work (m ∷ ms) rest s (suc i) w e h =
+      let d : drop (s * slotSize) work ≡ slotOf m ++ (slotsOf ms ++ rest) = e ∙ append-assoc (slotOf m) (slotsOf ms) rest in
+      let q : s + suc i ≡ suc s + i = omega arith in
+      rw q
+      (slot-from work ms rest (suc s) i (w .1)
+      (slot-passed work s (m .vertex) (m .letter) (m .parent) (slotsOf ms ++ rest) d (w .0))
+      (omega arith))
+
+  -- each slot holds its node
+  pub slot-shown : (work : List ℕ) (r : Walked) (start : List ℕ) (w : Walk Vertex) → Shown work r start w → (i : ℕ) → i < length (nodesOf w)
+      → (vertexAt work i ≡ at (lagGraph A B b) (nodesOf w) i .vertex) × (letterAt work i ≡ at (lagGraph A B b) (nodesOf w) i .letter)
+      × (parentAt work i ≡ at (lagGraph A B b) (nodesOf w) i .parent)
+  unfolding workAfter
+  slot-shown work r start w S i h =
+      rw zero-add at (slot-from work (nodesOf w) (drop (slotSize * length (nodesOf w)) start) 0 i (S .wide) (S .bytes) h)
+
+  listed-at : (v : Vertex) (ns : List (Node Vertex)) (i : ℕ) → i < length ns → T (sameVertex v (at (lagGraph A B b) ns i .vertex))
+      → T (listed (lagGraph A B b) v ns)
+  listed-at v [] i h t = absurd (omega arith)
+  listed-at v (n ∷ ns) zero h t = or-left (sameVertex v (n .vertex)) (listed (lagGraph A B b) v ns) t
+  listed-at v (n ∷ ns) (suc i) h t =
+      or-right (sameVertex v (n .vertex)) (listed (lagGraph A B b) v ns) (listed-at v ns i (omega arith) t)
+
+  not-listed : (v : Vertex) (ns : List (Node Vertex)) → ((i : ℕ) → i < length ns → sameVertex v (at (lagGraph A B b) ns i .vertex) ≡ false)
+      → listed (lagGraph A B b) v ns ≡ false
+  not-listed v [] h = refl
+  not-listed v (n ∷ ns) h =
+      ap₂ (λ (x y : Bool). x || y) (h 0 (omega arith)) (not-listed v ns (λ i l. h (suc i) (omega arith)))
+
+  -- one visit, by what the search and the tests found
+  module _ (work : List ℕ) (n : ℕ) (start : List ℕ) (ns : List (Node Vertex)) (S : Shown work (Contained n) start (going ns))
+      (p a : ℕ) (v : Vertex) where
+    count : n ≡ length ns
+    count = let e = S .answer in cc
+
+    abbrev after : Walk Vertex
+    after = visit (lagGraph A B b) (below (slotCount (length start))) p (going ns) (a, v)
+
+    is-listed : (i : ℕ) → lastBelow work v n ≡ At i → listed (lagGraph A B b) v ns ≡ true
+    is-listed i e =
+        let f = last-found work v n i e in
+        let d = slot-shown work (Contained n) start (going ns) S i (omega (arith, f .0, count)) in
+        T-true (listed (lagGraph A B b) v ns) (listed-at v ns i (omega (arith, f .0, count)) (rw (d .0) at (f .1)))
+
+    none-listed : lastBelow work v n ≡ Nothing → listed (lagGraph A B b) v ns ≡ false
+    none-listed e =
+        not-listed v ns
+        (λ i h.
+        let d = slot-shown work (Contained n) start (going ns) S i h in
+        rw (d .0) at (last-absent work v n e i (omega (arith, count))))
+
+    pub visit-known : (i : ℕ) → lastBelow work v n ≡ At i → Shown work (Contained n) start after
+    visit-known i e = rw (is-listed i e) S
+
+    pub visit-final : lastBelow work v n ≡ Nothing → allZero (v .counters) ≡ true → Shown work (Differs n a p) start after
+    unfolding workAfter
+    visit-final e z =
+        rw (none-listed e, z)
+        (record { answer = ap (λ (k : ℕ). Differs k a p) count; bytes = S .bytes; wide = S .wide; room = S .room })
+
+    pub visit-full : lastBelow work v n ≡ Nothing → allZero (v .counters) ≡ false → slotCount (length work) ≤ n
+        → Shown work (Full n) start after
+    unfolding workAfter
+    visit-full e z h =
+        let l = shown-length work (Contained n) start (going ns) S in
+        let k = S .room in
+        let q : slotCount (length work) ≡ slotCount (length start) = ap slotCount l in
+        let s : n ≡ slotCount (length start) = omega (arith, count) in
+        rw (none-listed e, z, le-ltb (length ns) (slotCount (length start)) (omega (arith, count)))
+        (record { answer = ap Full s; bytes = S .bytes; wide = S .wide; room = S .room })
+
+    pub visit-stored : lastBelow work v n ≡ Nothing → allZero (v .counters) ≡ false → n < slotCount (length work)
+        → length (v .counters) ≡ maxStates → Shown (stored work n v a p) (Contained (n + 1)) start after
+    visit-stored e z h wide =
+        rw (none-listed e, z, lt-ltb (length ns) (slotCount (length start)) (omega (arith, count, slots)))
+        (record {
+          answer = ap Contained (omega (arith, count, length-append ns (node (a, v) p ∷ [])));
+          bytes = ap₂ (λ (x : List ℕ) (k : ℕ). stored x k v a p) (S .bytes) count ∙ stored-bytes start ns (node (a, v) p) (S .wide);
+          wide = wide-more ns (node (a, v) p) (S .wide) wide;
+          room = omega (arith, count, slots, length-append ns (node (a, v) p ∷ []));
+        })
+      where
+        slots : slotCount (length work) ≡ slotCount (length start)
+        slots = ap slotCount (shown-length work (Contained n) start (going ns) S)
+
+-- what the next visit needs is there again once a vertex has been stored
+pub ready-stored : (work heads nexts heads′ nexts′ : List ℕ) (n a p : ℕ) (v : Vertex) → Ready work heads nexts n
+    → n < slotCount (length work) → v .left < maxStates → length (v .counters) ≡ maxStates
+    → Indexed (stored work n v a p) heads′ nexts′ (n + 1) → Ready (stored work n v a p) heads′ nexts′ (n + 1)
+ready-stored work heads nexts heads′ nexts′ n a p v R h l wide I =
+    record {
+      room = let e = ap slotCount (stored-long work n v a p fits wide) in omega arith;
+      index = I;
+      lefts = λ s k.
+          ⊎-elim
+          (λ q.
+          subst (λ (u : Vertex). u .left < maxStates)
+          (sym (ap (vertexAt (stored work n v a p)) q ∙ stored-vertex work n v a p fits wide)) l)
+          (λ q. subst (λ (u : Vertex). u .left < maxStates) (sym (stored-below work n v a p fits s wide q)) (R .lefts s q))
+          (eq-or-lt-of-le {n = s} {m = n} (omega arith));
+    }
+  where
+    fits : n * slotSize + slotSize ≤ length work
+    fits = omega arith
+
+pub ready-none : (work heads nexts : List ℕ) → Indexed work heads nexts 0 → Ready work heads nexts 0
+ready-none work heads nexts I = record { room = omega arith; index = I; lefts = λ s h. absurd (omega arith) }

@@ -1,0 +1,221 @@
+-- The loop over the letters of a turn and the loop over the turns follow the definition: before each letter, and before each place,
+-- what is left of the fold from the list that the work buffer shows makes the walk of the whole. Assumes nothing.
+use mathlib.Core.Path.{_≡_, sym, _∙_, ap, subst}
+use mathlib.Core.List.{List, [], _++_, map, flatMap}
+use Prim.Native.Nat.{ℕ, suc, _+_, _-_, _≤_, _<_}
+use native.Mathlib.Nat.{sub-zero}
+use native.Mathlib.Numerals.{add-one}
+use native.Mathlib.Omega.{arith}
+use lib.ListN.{length}
+use Rattle.automaton.specs.declared.Automaton.{Automaton}
+use Rattle.automaton.specs.Automata.{maxStates, maxLetters, targets}
+use Rattle.automaton.specs.Members.{transitionIn, nextFrom}
+use Rattle.automaton.specs.Ranges.{table}
+use Rattle.slots.specs.declared.Vertex.{Vertex}
+use Rattle.slots.specs.Slots.{slotCount, noLetter, noParent}
+use Rattle.slots.specs.Bytes.{vertexAt}
+use Rattle.walk.specs.declared.Rules.{Rules}
+use Rattle.walk.specs.declared.Step.{Step}
+use Rattle.walk.specs.declared.Walked.{Walked}
+use Rattle.walk.specs.declared.Walked.the-variants.{Contained}
+use Rattle.walk.specs.Discovery.{Node, Walk, going, ended, full, below, visit, visits, successorsAt, turn, turns, begin}
+use Rattle.walk.specs.LagGraph.{initialVertex, successor, successors, lagGraph}
+use Rattle.walk.specs.Walks.{walkOf}
+use Rattle.walk.specs.Shown.{Shown, Becomes, Side, RulesOf, StepOf}
+use Rattle.walk.proofs.Visits.{successors-in, turns-ended, turns-full, turns-past}
+use Rattle.walk.proofs.ShownSlots.{slot-shown, shown-none}
+use Rattle.walk.proofs.Onward.{Stops, shown-going, Onward, onward-next, onward-stop, onward-end, TargetsDone, no-targets}
+
+-- The letters of a turn.
+
+module _ (A B : Automaton) (b : ℕ) (v : Vertex) where
+  -- the successors on a letter, and on the letters from a on, of k
+  abbrev pub edgesOn : ℕ → List (ℕ × Vertex)
+  edgesOn a = map (successor A B b v a) (targets A (v .left) a)
+
+  abbrev pub edgesFromLetter : ℕ → ℕ → List (ℕ × Vertex)
+  edgesFromLetter k a = flatMap edgesOn (table (λ c. c) (k - a) a)
+
+  edges-all : successors A B b v ≡ edgesFromLetter (A .letters) 0
+  unfolding successors
+  edges-all = ap (λ (n : ℕ). flatMap edgesOn (table (λ c. c) n 0)) (sym (sub-zero (A .letters)))
+
+  edges-more : (k a : ℕ) → a < k → edgesFromLetter k a ≡ edgesOn a ++ edgesFromLetter k (a + 1)
+  unfolding flatMap table
+  edges-more k a h = let q : k - a ≡ suc (k - (a + 1)) = omega arith in rw (q, add-one)
+
+  edges-none : (k a : ℕ) → k ≤ a → edgesFromLetter k a ≡ []
+  unfolding flatMap table
+  edges-none k a h = let q : k - a ≡ 0 = omega arith in rw q
+
+-- the answer r and the work buffer are those of the successors on letter a
+abbrev pub LetterDone : Rules → List ℕ → List ℕ → Vertex → ℕ → ℕ → List ℕ → ℕ → List ℕ → Walked → Type 0
+LetterDone rules lefts rights v a p before n work r =
+    (A B : Automaton) (b : ℕ) → RulesOf rules lefts rights A B b
+    → Becomes before n work r (λ S w. visits (lagGraph A B b) (below S) p w (edgesOn A B b v a))
+
+module _ (rules : Rules) (lefts rights : List ℕ) (v : Vertex) (a p : ℕ) (work : List ℕ) (m : ℕ) where
+  -- by the step of the vertex and its targets
+  pub letter-done : (step : Step) → step .letter ≡ a
+      → ((A B : Automaton) (b : ℕ) → rules .top ≡ b + 1 → Side (rules .right) rights B → StepOf step A B b v)
+      → (work′ : List ℕ) (r : Walked) → TargetsDone (rules .left) lefts step p work m work′ r
+      → LetterDone rules lefts rights v a p work m work′ r
+  letter-done step e steps work′ r seen A B b R =
+      subst (λ (c : ℕ). Becomes work m work′ r (λ S w. visits (lagGraph A B b) (below S) p w (edgesOn A B b v c))) e
+      (seen A B b v (R .left) (steps A B b (R .top-is) (R .right)))
+
+  -- where the left state has no target there is no successor
+  pub letter-none : v .left < maxStates → a < maxLetters → nextFrom (transitionIn lefts (v .left) a) maxStates 0 ≡ maxStates
+      → LetterDone rules lefts rights v a p work m work (Contained m)
+  letter-none h l e A B b R start ns S =
+      subst (λ (es : List (ℕ × Vertex)). Shown work (Contained m) start
+      (visits (lagGraph A B b) (below (slotCount (length start))) p (going ns) es))
+      (sym (ap (map (successor A B b v a)) (no-targets A lefts (R .left .transitions-are) (R .left .in-range) (v .left) a h l e))) S
+
+-- Before letter a: the visits on the letters from a on make the turn of place p.
+abbrev pub LettersLeft : Rules → List ℕ → List ℕ → Vertex → ℕ → List ℕ → ℕ → List ℕ → ℕ → ℕ → Type 0
+LettersLeft rules lefts rights v p before n work m a =
+    (A B : Automaton) (b : ℕ) → RulesOf rules lefts rights A B b
+    → (start : List ℕ) (ns : List (Node Vertex)) → Shown before (Contained n) start (going ns)
+    → Onward A B b p work m start (edgesFromLetter A B b v (rules .letters) a)
+    (turn (lagGraph A B b) (below (slotCount (length start))) p (going ns))
+
+abbrev pub TurnDone : Rules → List ℕ → List ℕ → ℕ → List ℕ → ℕ → List ℕ → Walked → Type 0
+TurnDone rules lefts rights p before n work r =
+    (A B : Automaton) (b : ℕ) → RulesOf rules lefts rights A B b
+    → Becomes before n work r (λ S. turn (lagGraph A B b) (below S) p)
+
+module _ (rules : Rules) (lefts rights : List ℕ) (v : Vertex) (p : ℕ) (before : List ℕ) (n : ℕ) where
+  pub letters-start : v ≡ vertexAt before p → p < n → LettersLeft rules lefts rights v p before n before n 0
+  letters-start e h A B b R start ns S = (ns, S, ap (visits (lagGraph A B b) (below (slotCount (length start))) p (going ns)) (sym edges))
+    where
+      count : n ≡ length ns
+      count = let q = S .answer in cc
+
+      edges : successorsAt (lagGraph A B b) ns p ≡ edgesFromLetter A B b v (rules .letters) 0
+      edges =
+          successors-in (lagGraph A B b) ns p (omega (arith, count))
+          ∙ ap (successors A B b) (sym (slot-shown A B b before (Contained n) start (going ns) S p (omega (arith, count)) .0) ∙ sym e)
+          ∙ edges-all A B b v
+          ∙ ap (λ (k : ℕ). edgesFromLetter A B b v k 0) (sym (R .letters-are))
+
+  module _ (work : List ℕ) (m a : ℕ) (O : LettersLeft rules lefts rights v p before n work m a) where
+    pub letters-end : rules .letters ≤ a → TurnDone rules lefts rights p before n work (Contained m)
+    letters-end h A B b R start ns S =
+        onward-end A B b p work m start (edgesFromLetter A B b v (rules .letters) a) _ (O A B b R start ns S)
+        (edges-none A B b v (rules .letters) a h)
+
+    module _ (h : a < rules .letters) (work′ : List ℕ) (r : Walked) (seen : LetterDone rules lefts rights v a p work m work′ r) where
+      pub letters-stop : Stops r → TurnDone rules lefts rights p before n work′ r
+      letters-stop k A B b R start ns S =
+          onward-stop A B b p work m work′ r start (edgesOn A B b v a) (edgesFromLetter A B b v (rules .letters) (a + 1))
+          (edgesFromLetter A B b v (rules .letters) a) _ (O A B b R start ns S) (edges-more A B b v (rules .letters) a h) (seen A B b R) k
+
+      pub letters-next : (x : ℕ) → r ≡ Contained x → LettersLeft rules lefts rights v p before n work′ x (a + 1)
+      letters-next x q A B b R start ns S =
+          onward-next A B b p work m work′ r start (edgesOn A B b v a) (edgesFromLetter A B b v (rules .letters) (a + 1))
+          (edgesFromLetter A B b v (rules .letters) a) _ (O A B b R start ns S) (edges-more A B b v (rules .letters) a h) (seen A B b R) x q
+
+-- The turns.
+
+-- Before the turn of place p: the turns from p on make the walk.
+abbrev pub TurnsLeft : Rules → List ℕ → List ℕ → List ℕ → ℕ → List ℕ → ℕ → ℕ → Type 0
+TurnsLeft rules lefts rights before n work m p =
+    (A B : Automaton) (b : ℕ) → RulesOf rules lefts rights A B b
+    → (start : List ℕ) (ns : List (Node Vertex)) → Shown before (Contained n) start (going ns)
+    → (ms : List (Node Vertex)) × Shown work (Contained m) start (going ms)
+    × (turns (lagGraph A B b) (below (slotCount (length start))) (slotCount (length start) - p) p (going ms)
+    ≡ turns (lagGraph A B b) (below (slotCount (length start))) (slotCount (length start)) 0 (going ns))
+
+abbrev pub TurnsDone : Rules → List ℕ → List ℕ → List ℕ → ℕ → List ℕ → Walked → Type 0
+TurnsDone rules lefts rights before n work r =
+    (A B : Automaton) (b : ℕ) → RulesOf rules lefts rights A B b
+    → Becomes before n work r (λ S. turns (lagGraph A B b) (below S) S 0)
+
+stopped-turns : (A B : Automaton) (b S k p : ℕ) (work : List ℕ) (r : Walked) (start : List ℕ) (w : Walk Vertex) → Stops r
+    → Shown work r start w
+    → turns (lagGraph A B b) (below S) k p w ≡ w
+stopped-turns A B b S k p work r start (going ns) t s = absurd (subst Stops (s .answer) t)
+stopped-turns A B b S k p work r start (ended ns n) t s = turns-ended (lagGraph A B b) (below S) k p ns n
+stopped-turns A B b S k p work r start (full ns) t s = turns-full (lagGraph A B b) (below S) k p ns
+
+module _ (rules : Rules) (lefts rights before : List ℕ) (n : ℕ) where
+  pub turns-start : TurnsLeft rules lefts rights before n before n 0
+  turns-start A B b R start ns S = (ns, S, rw (sub-zero (slotCount (length start))))
+
+  module _ (work : List ℕ) (m p : ℕ) (O : TurnsLeft rules lefts rights before n work m p) where
+    pub turns-end : m ≤ p → TurnsDone rules lefts rights before n work (Contained m)
+    turns-end h A B b R start ns S =
+        let o = O A B b R start ns S in
+        let k = slotCount (length start) in
+        let count : m ≡ length (o .0) = let q = o .1 .answer in cc in
+        subst (λ (w : Walk Vertex). Shown work (Contained m) start w)
+        (sym (turns-past (lagGraph A B b) (below k) (k - p) p (o .0) (omega arith)) ∙ o .2) (o .1)
+
+    module _ (h : p < m) (work′ : List ℕ) (r : Walked) (seen : TurnDone rules lefts rights p work m work′ r) where
+      one-turn : (A B : Automaton) (b S : ℕ) (w : Walk Vertex) → p < S
+          → turns (lagGraph A B b) (below S) (S - p) p w ≡ turns (lagGraph A B b) (below S) (S - (p + 1)) (p + 1)
+          (turn (lagGraph A B b) (below S) p w)
+      one-turn A B b S w l = let q : S - p ≡ suc (S - (p + 1)) = omega arith in rw (q, add-one)
+
+      module _ (A B : Automaton) (b : ℕ) (R : RulesOf rules lefts rights A B b) (start : List ℕ) (ns : List (Node Vertex))
+          (S : Shown before (Contained n) start (going ns)) where
+        abbrev slots : ℕ
+        slots = slotCount (length start)
+
+        abbrev so-far : List (Node Vertex)
+        so-far = O A B b R start ns S .0
+
+        after : Shown work′ r start (turn (lagGraph A B b) (below slots) p (going so-far))
+        after = seen A B b R start so-far (O A B b R start ns S .1)
+
+        whole : turns (lagGraph A B b) (below slots) (slots - (p + 1)) (p + 1) (turn (lagGraph A B b) (below slots) p (going so-far))
+            ≡ turns (lagGraph A B b) (below slots) slots 0 (going ns)
+        whole =
+            let o = O A B b R start ns S in
+            let k = o .1 .room in
+            let count : m ≡ length so-far = let q = o .1 .answer in cc in
+            sym (one-turn A B b slots (going so-far) (omega arith)) ∙ o .2
+
+      pub turns-stop : Stops r → TurnsDone rules lefts rights before n work′ r
+      turns-stop t A B b R start ns S =
+          let k = slotCount (length start) in
+          let w = turn (lagGraph A B b) (below k) p (going (so-far A B b R start ns S)) in
+          let d = after A B b R start ns S in
+          subst (λ (x : Walk Vertex). Shown work′ r start x)
+          (sym (stopped-turns A B b k (k - (p + 1)) (p + 1) work′ r start w t d) ∙ whole A B b R start ns S) d
+
+      pub turns-next : (x : ℕ) → r ≡ Contained x → TurnsLeft rules lefts rights before n work′ x (p + 1)
+      turns-next x e A B b R start ns S =
+          let k = slotCount (length start) in
+          let w = turn (lagGraph A B b) (below k) p (going (so-far A B b R start ns S)) in
+          let g = shown-going work′ r x start w e (after A B b R start ns S) in
+          (g .0, g .2, ap (turns (lagGraph A B b) (below k) (k - (p + 1)) (p + 1)) (sym (g .1)) ∙ whole A B b R start ns S)
+
+-- The walk: the visit of the initial vertex, and the turns.
+
+module _ (A B : Automaton) (b : ℕ) (first : Vertex) (is-initial : first ≡ initialVertex A B b) (work work′ : List ℕ) (r : Walked)
+    (seen : (A B : Automaton) (b : ℕ) → Becomes work 0 work′ r
+    (λ S w. visit (lagGraph A B b) (below S) noParent w (noLetter, first))) where
+  began : Shown work′ r work (begin (lagGraph A B b) (below (slotCount (length work))))
+  began =
+      subst (λ (v : Vertex). Shown work′ r work (visit (lagGraph A B b) (below (slotCount (length work))) noParent (going [])
+      (noLetter, v)))
+      is-initial (seen A B b work [] (shown-none work))
+
+  pub walk-stop : Stops r → Shown work′ r work (walkOf A B b (slotCount (length work)))
+  unfolding walkOf
+  walk-stop t =
+      let S = slotCount (length work) in
+      subst (λ (w : Walk Vertex). Shown work′ r work w)
+      (sym (stopped-turns A B b S S 0 work′ r work (begin (lagGraph A B b) (below S)) t began)) began
+
+  pub walk-on : (n : ℕ) → r ≡ Contained n → (rules : Rules) (lefts rights : List ℕ) → RulesOf rules lefts rights A B b
+      → (work″ : List ℕ) (r′ : Walked) → TurnsDone rules lefts rights work′ n work″ r′
+      → Shown work″ r′ work (walkOf A B b (slotCount (length work)))
+  unfolding walkOf
+  walk-on n e rules lefts rights R work″ r′ done =
+      let S = slotCount (length work) in
+      let g = shown-going work′ r n work (begin (lagGraph A B b) (below S)) e began in
+      subst (λ (w : Walk Vertex). Shown work″ r′ work (turns (lagGraph A B b) (below S) S 0 w)) (sym (g .1))
+      (done A B b R work (g .0) (g .2))

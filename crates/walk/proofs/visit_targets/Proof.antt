@@ -1,0 +1,174 @@
+-- `walk::visit_targets` meets its contract. Before each target the visits of those that are left, from the list that the work buffer
+-- shows, make the walk of all of them. Assumes nothing.
+use mathlib.Core.Path.{_≡_, refl, _∙_}
+use mathlib.Core.Bool.{true}
+use Prim.Native.Nat.{_-_, _+_, _≤_, _<_}
+use native.Mathlib.Omega.{arith}
+use borrow.Author.Needs.{needs}
+use Rattle.automaton.specs.Members.{transitionIn}
+use Rattle.automaton.proofs.Members.{next-from, next-to, next-holds}
+use Rattle.walk.proofs.Onward.{Kept, TargetsLeft, other-stops, targets-start, targets-next, targets-stop, targets-end}
+use Rattle.walk.proofs.visit_targets.Statement.{statement}
+use Rattle.walk.proofs.visit_targets.Tie as tie
+
+abbrev Inv-loop : tie.InvT-loop
+Inv-loop accepting transitions work₀ heads₀ nexts₀ n p step left letter listed₀ t₀ work heads nexts listed t =
+    (left ≡ step .left) × (letter ≡ step .letter) × (t ≤ 32) × (t < 32 → transitionIn transitions left letter t ≡ true)
+    × Kept work₀ heads₀ nexts₀ work heads nexts listed × TargetsLeft accepting transitions step p work₀ n work listed t
+
+abbrev μ-loop : tie.MeasureT-loop
+μ-loop accepting transitions work₀ heads₀ nexts₀ n p step left letter listed₀ t₀ work heads nexts listed t = 32 - t
+
+next-target-requires : tie.Need-next-target-requires Inv-loop μ-loop
+next-target-requires c κs = search needs
+
+loop-holds : tie.Need-loop-holds Inv-loop μ-loop
+loop-holds c =
+    let s = c .before .before .before .before in
+    let a = s .args in
+    let t = c .next-target in
+    let f = transitionIn (a .transitions .now) (a .step .left) (a .step .letter) in (
+      refl,
+      refl,
+      omega (arith, t .ensures, next-to f 32 0),
+      λ h. rw (t .ensures) (next-holds f 32 0 (omega (arith, t .ensures))),
+      record { work-long = refl; heads-long = refl; nexts-long = refl; ready = s .pre .0 },
+      targets-start (a .accepting .now) (a .transitions .now) (a .step) (s .pre .2) (s .pre .3) (a .p) (a .work .now) (a .n)
+          (t .result) (t .ensures),
+    )
+
+target-vertex-requires : tie.Need-target-vertex-requires Inv-loop μ-loop
+target-vertex-requires c κs = search needs
+
+cast-visit : tie.Need-cast-visit Inv-loop μ-loop
+cast-visit c = search needs
+
+visit-requires : tie.Need-visit-requires Inv-loop μ-loop
+visit-requires c κs =
+    let u = c .before .before .before in
+    let h = u .before in (
+      h .before .loop .inv .4 .ready,
+      omega (arith, u .target-vertex .ensures .0, h .loop-test .taken),
+      h .before .before .before .before
+          .before .before .pre .1,
+    )
+
+enum-known-seen : tie.Need-enum-known-seen Inv-loop μ-loop
+enum-known-seen c = search needs
+
+same-length : tie.Need-same-length Inv-loop μ-loop
+same-length c =
+    let w = c .before .before .before .before .before .before .before in
+    w .visit .kept .0 ∙ w .before .before .before .before .before .before .loop .inv .4 .work-long
+
+same-length-2 : tie.Need-same-length-2 Inv-loop μ-loop
+same-length-2 c =
+    let w = c .before .before .before .before .before .before .before in
+    w .visit .kept .1 .0 ∙ w .before .before .before .before .before .before .loop .inv .4 .heads-long
+
+same-length-3 : tie.Need-same-length-3 Inv-loop μ-loop
+same-length-3 c =
+    let w = c .before .before .before .before .before .before .before in
+    w .visit .kept .1 .1 .0 ∙ w .before .before .before .before .before .before .loop .inv .4 .nexts-long
+
+returns : tie.Need-returns Inv-loop μ-loop
+returns c =
+    let w = c .before .before .before .before .before .before .before in
+    let v = w .visit in
+    let h = w .before .before .before .before .before in
+    let k = h .loop-test .taken in
+    let u = w .before .before .before .before .target-vertex in
+    let l = h .before .loop in
+    let s = h .before .before .before .before .before .before in
+    let a = s .args in (
+      targets-stop (a .accepting .now) (a .transitions .now) (a .step) (s .pre .2) (s .pre .3) (a .p) (a .work .now) (a .n)
+          (l .work) (l .listed) (l .t) (l .inv .5) k (l .inv .3 k) (u .result) (u .ensures .0) (u .ensures .1)
+          (v .last .0) (v .result) (v .ensures .0) (other-stops (v .result) (c .match .keys2)),
+      v .ensures .1,
+    )
+
+add-next-target : tie.Need-add-next-target Inv-loop μ-loop
+add-next-target c = search needs
+
+next-target-requires-2 : tie.Need-next-target-requires-2 Inv-loop μ-loop
+next-target-requires-2 c κs = search needs
+
+loop-less : tie.Need-loop-less Inv-loop μ-loop
+loop-less c =
+    let h = c .before .before .before .before .before .before .before .before .before .before .before .before .before .before .before in
+    let l = h .before .loop in
+    let a = h .before .before .before .before .before .before .args in
+    let f = transitionIn (a .transitions .now) (a .step .left) (a .step .letter) in
+    omega (arith, c .next-target2 .ensures, next-from f (32 - (l .t + 1)) (l .t + 1), h .loop-test .taken)
+
+loop-again : tie.Need-loop-again Inv-loop μ-loop
+loop-again c =
+    let w = c .before .before .before .before .before .before .before .before .before .before in
+    let v = w .visit in
+    let h = w .before .before .before .before .before in
+    let k = h .loop-test .taken in
+    let u = w .before .before .before .before .target-vertex in
+    let l = h .before .loop in
+    let s = h .before .before .before .before .before .before in
+    let a = s .args in
+    let g = c .before .before .seen .given .1 in
+    let t = c .next-target2 in
+    let f = transitionIn (a .transitions .now) (a .step .left) (a .step .letter) in (
+      refl,
+      refl,
+      omega (arith, t .ensures, next-to f (32 - (l .t + 1)) (l .t + 1)),
+      λ j. rw (t .ensures) (next-holds f (32 - (l .t + 1)) (l .t + 1) (omega (arith, t .ensures))),
+      record {
+        work-long = v .kept .0 ∙ l .inv .4 .work-long;
+        heads-long = v .kept .1 .0 ∙ l .inv .4 .heads-long;
+        nexts-long = v .kept .1 .1 .0 ∙ l .inv .4 .nexts-long;
+        ready = rw g at (v .ensures .1);
+      },
+      targets-next (a .accepting .now) (a .transitions .now) (a .step) (s .pre .2) (s .pre .3) (a .p) (a .work .now) (a .n)
+          (l .work) (l .listed) (l .t) (l .inv .5) k (l .inv .3 k) (u .result) (u .ensures .0) (u .ensures .1)
+          (v .last .0) (v .result) (v .ensures .0) _ (t .result) g (t .ensures),
+    )
+
+same-length-4 : tie.Need-same-length-4 Inv-loop μ-loop
+same-length-4 c = c .before .loop .inv .4 .work-long
+
+same-length-5 : tie.Need-same-length-5 Inv-loop μ-loop
+same-length-5 c = c .before .loop .inv .4 .heads-long
+
+same-length-6 : tie.Need-same-length-6 Inv-loop μ-loop
+same-length-6 c = c .before .loop .inv .4 .nexts-long
+
+returns-2 : tie.Need-returns-2 Inv-loop μ-loop
+returns-2 c =
+    let l = c .before .loop in
+    let s = c .before .before .before .before .before .before in
+    let a = s .args in (
+      targets-end (a .accepting .now) (a .transitions .now) (a .step) (s .pre .2) (s .pre .3) (a .p) (a .work .now) (a .n)
+          (l .work) (l .listed) (l .t) (l .inv .5) (c .loop-test .left),
+      l .inv .4 .ready,
+    )
+
+pub visit-targets-spec : {M : Type 1} → statement M
+visit-targets-spec =
+    tie.close
+    (tie.spec
+    Inv-loop
+    μ-loop
+    next-target-requires
+    loop-holds
+    target-vertex-requires
+    cast-visit
+    visit-requires
+    enum-known-seen
+    same-length
+    same-length-2
+    same-length-3
+    returns
+    add-next-target
+    next-target-requires-2
+    loop-less
+    loop-again
+    same-length-4
+    same-length-5
+    same-length-6
+    returns-2)

@@ -1,0 +1,118 @@
+-- `walk::walk` meets its contract: the initial vertex is visited with an empty index, and the turns follow. Assumes nothing.
+use mathlib.Core.Path.{refl, sym, subst}
+use Prim.Native.Nat.{_<_}
+use native.Mathlib.Omega.{arith}
+use borrow.Author.Needs.{needs}
+use Rattle.automaton.specs.Automata.{maxStates}
+use Rattle.slots.specs.declared.Vertex.{Vertex}
+use Rattle.slots.proofs.Chains.{index-none}
+use Rattle.walk.specs.LagGraph.{initialVertex}
+use Rattle.walk.specs.Shown.{RulesOf}
+use Rattle.walk.proofs.ShownSlots.{ready-none}
+use Rattle.walk.proofs.Onward.{other-stops}
+use Rattle.walk.proofs.TurnLoops.{walk-stop, walk-on}
+use Rattle.walk.proofs.walk.Statement.{statement}
+use Rattle.walk.proofs.walk.Tie as tie
+
+rules-of-requires : tie.Need-rules-of-requires
+rules-of-requires c κs = search needs
+
+initial-vertex-requires : tie.Need-initial-vertex-requires
+initial-vertex-requires c κs = search needs
+
+slice-aggregate-visit : tie.Need-slice-aggregate-visit
+slice-aggregate-visit c = search needs
+
+slice-aggregate-visit-2 : tie.Need-slice-aggregate-visit-2
+slice-aggregate-visit-2 c = search needs
+
+visit-requires : tie.Need-visit-requires
+unfolding initialVertex
+visit-requires c κs =
+    let s = c .before .before .before .before .before .before .before .before in (
+      ready-none (s .args .work .now) _ _ (index-none (s .args .work .now)),
+      subst (λ (v : Vertex). v .left < maxStates) (sym (c .before .before .before .initial-vertex .ensures))
+          (omega (arith, s .pre .0 .initial-below, s .pre .0 .few-states)),
+      omega arith,
+    )
+
+enum-known-seen : tie.Need-enum-known-seen
+enum-known-seen c = search needs
+
+same-length : tie.Need-same-length
+same-length c = search needs
+
+returns : tie.Need-returns
+returns c =
+    let w = c .before .before .before .before .before in
+    let v = w .visit in
+    let i = w .before .before .before .before .initial-vertex in
+    let a = w .before .before .before .before .before .before .before .before .before .args in
+    let d =
+    walk-stop (a .left) (a .right) (a .bound) (i .result) (i .ensures) (a .work .now) (v .last .0) (v .result) (v .ensures .0)
+    (other-stops (v .result) (c .match .keys2)) in
+    (d .answer, d .bytes)
+
+slice-aggregate-turns : tie.Need-slice-aggregate-turns
+slice-aggregate-turns c = search needs
+
+slice-aggregate-turns-2 : tie.Need-slice-aggregate-turns-2
+slice-aggregate-turns-2 c = search needs
+
+turns-requires : tie.Need-turns-requires
+turns-requires c κs =
+    let w = c .before .before .before .before .before .before .before .before .before .before .before .before in
+    let g = c .before .before .before .before .before .before .seen .given .1 in (
+      rw g at (w .visit .ensures .1),
+      omega (
+        arith,
+        w .before .before .before .before .before .rules-of .ensures .0,
+        w .before .before
+            .before .before .before .before .before .before .before .pre .0 .few-letters,
+      ),
+    )
+
+same-length-2 : tie.Need-same-length-2
+same-length-2 c = search needs
+
+returns-2 : tie.Need-returns-2
+returns-2 c =
+    let w = c .before .before .before .before .before .before .before .before .before .before .before .before .before .before .before
+    .before .before in
+    let v = w .visit in
+    let i = w .before .before .before .before .initial-vertex in
+    let rules = w .before .before .before .before .before .rules-of in
+    let e = rules .ensures in
+    let s = w .before .before .before .before .before .before .before .before .before in
+    let a = s .args in
+    let t = c .before .before .before .before .turns in
+    let R : RulesOf (rules .result) (a .left .transitions) (a .right .transitions) (a .left) (a .right) (a .bound) =
+    record {
+      letters-are = e .0;
+      top-is = e .1;
+      left = record { accepting-is = e .2; transitions-are = refl; in-range = s .pre .0 };
+      right = record { accepting-is = e .3; transitions-are = refl; in-range = s .pre .1 };
+    } in
+    let d =
+    walk-on (a .left) (a .right) (a .bound) (i .result) (i .ensures) (a .work .now) (v .last .0) (v .result) (v .ensures .0) _
+    (c .before .before .before .before .before .before .before .before .before .before .before .seen .given .1) (rules .result)
+    (a .left .transitions) (a .right .transitions) R (t .last .1 .1 .1 .0) (t .result) (t .ensures) in
+    (d .answer, d .bytes)
+
+pub walk-spec : {M : Type 1} → statement M
+walk-spec =
+    tie.close
+    (tie.spec
+    rules-of-requires
+    initial-vertex-requires
+    slice-aggregate-visit
+    slice-aggregate-visit-2
+    visit-requires
+    enum-known-seen
+    same-length
+    returns
+    slice-aggregate-turns
+    slice-aggregate-turns-2
+    turns-requires
+    same-length-2
+    returns-2)

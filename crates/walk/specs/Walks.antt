@@ -1,0 +1,36 @@
+-- The walk with S slots, and the work buffer after it (01, "The walk").
+--   walkOf A B b S    the walk of the lag-checking graph of A and B at bound b
+--   slotsOf ns        the slots of the listed vertices: "Each new vertex that is not final is written into the next free slot"
+--   workAfter work w  "Unused bytes keep their contents. A final vertex takes no slot"
+--   wordOf            the word of the final vertex
+--   Fits A B b S w    w is the discovery list, and its vertices that are not final fit S slots: "no final vertex and length at most
+--                     S", or "place i of the final vertex, counted from 0: i at most S"
+--   NeedsMore A B b S "otherwise refusal 10": the discovery list does not fit
+-- Assumes nothing.
+use mathlib.Core.List.{List, flatMap, _++_}
+use Prim.Native.Nat.{ℕ, _*_, _≤_}
+use lib.ListN.{length, drop}
+use Rattle.automaton.specs.declared.Automaton.{Automaton}
+use Rattle.slots.specs.declared.Vertex.{Vertex}
+use Rattle.slots.specs.Slots.{slotSize, slotBytes}
+use Rattle.walk.specs.Discovery.{Node, Walk, nodesOf, DiscoveryList, walk, finalWord}
+use Rattle.walk.specs.LagGraph.{lagGraph}
+
+unfoldable pub walkOf : Automaton → Automaton → ℕ → ℕ → Walk Vertex
+walkOf A B b S = walk (lagGraph A B b) S
+
+unfoldable pub slotsOf : List (Node Vertex) → List ℕ
+slotsOf ns = flatMap (λ n. slotBytes (n .vertex) (n .letter) (n .parent)) ns
+
+unfoldable pub workAfter : List ℕ → Walk Vertex → List ℕ
+workAfter work w = slotsOf (nodesOf w) ++ drop (slotSize * length (nodesOf w)) work
+
+unfoldable pub wordOf : Automaton → Automaton → ℕ → List (Node Vertex) → Node Vertex → List ℕ
+wordOf A B b ns n = finalWord (lagGraph A B b) ns n
+
+pub record Fits (A B : Automaton) (b S : ℕ) (w : Walk Vertex) : Type 0 where
+  pub list : DiscoveryList (lagGraph A B b) w
+  pub room : length (nodesOf w) ≤ S
+
+unfoldable pub NeedsMore : Automaton → Automaton → ℕ → ℕ → Type 0
+NeedsMore A B b S = (w : Walk Vertex) → Fits A B b S w → ⊥
