@@ -1,0 +1,2 @@
+-- The proved cases.
+pub mod ProvedCases

@@ -1,0 +1,62 @@
+-- The cases of document 01 that are marked P hold: one computed test over the whole table, and the law that turns the test into
+-- what is said of each case. Assumes nothing.
+use mathlib.Core.Path.{_≡_, refl, subst, sym}
+use mathlib.Core.Bool.{Bool, true, false, _&&_, Bool·beq}
+use mathlib.Core.List.{List, [], _∷_, List·Memᴰ, List·Memᴰ·not-nil, List·Memᴰ·cases-cons, flatMap}
+use mathlib.Core.Logic.{⊎-elim}
+use Prim.Native.Nat.{ℕ}
+use lib.Dec.{T, eqb, eqb→eq}
+use Rattle.automaton.specs.Ranges as ranges
+use Rattle.automaton.specs.Automata as automata
+use Rattle.sets.specs.Closure as paths
+use Rattle.automaton.proofs.Tests.{and-both}
+use Rattle.file.specs.File as file
+use Rattle.file.specs.File.{readFile}
+use Rattle.deadend.specs.DeadEnds as ends
+use Rattle.slots.specs.Slots as slots
+use Rattle.slots.specs.Slots.{sameList}
+use Rattle.slots.proofs.Vertices.{same-list-eq}
+use Rattle.walk.specs.LagGraph as graph
+use Rattle.walk.specs.Walks as walks
+use Rattle.contain.specs.Contain as contain
+use Rattle.contain.specs.Contain.{outcomeOf, outcomeNumber, wordPart}
+use Rattle.verdict.specs.Verdict as lasso
+use Rattle.cases.specs.Cases.{Case, call, verdict, judged, buffer, Right, cases}
+
+-- what is said of a case, as a test
+test : Case → Bool
+test (call f g b work word n part) =
+    eqb (outcomeNumber (outcomeOf f g b (buffer work) (buffer word))) n
+    && sameList (wordPart f g b (buffer work) (buffer word)) part
+test (verdict f u v answer) = Bool·beq (judged (readFile f) u v) answer
+
+beq-eq : (a b : Bool) → T (Bool·beq a b) → a ≡ b
+beq-eq true true t = refl
+beq-eq true false t = absurd t
+beq-eq false true t = absurd t
+beq-eq false false t = refl
+
+test-right : (c : Case) → T (test c) → Right c
+unfolding test
+test-right (call f g b work word n part) t =
+    let h = and-both (eqb (outcomeNumber (outcomeOf f g b (buffer work) (buffer word))) n) (sameList (wordPart f g b (buffer work) (buffer word)) part) t in
+    (eqb→eq _ _ (h .0), same-list-eq _ _ (h .1))
+test-right (verdict f u v answer) t = beq-eq (judged (readFile f) u v) answer t
+
+every : List Case → Bool
+every [] = true
+every (c ∷ cs) = test c && every cs
+
+each : (cs : List Case) → T (every cs) → (c : Case) → List·Memᴰ c cs → T (test c)
+unfolding every
+each [] t c m = absurd (List·Memᴰ·not-nil m)
+each (d ∷ cs) t c m =
+    let h = and-both (test d) (every cs) t in
+    ⊎-elim (λ e. subst (λ (x : Case). T (test x)) (sym e) (h .0)) (λ k. each cs (h .1) c k) (List·Memᴰ·cases-cons m)
+
+computed : T (every cases)
+unfolding every test judged flatMap ranges.some ranges.those ranges.table ranges.largest automata.accepts automata.transition automata.targets automata.bare automata.withAccepting automata.withTransition automata.headerValues paths.relation paths.through paths.rounds paths.closure file.header file.acceptingAt file.transitionAt file.endAt file.recordAt file.records file.readFile ends.edge ends.paths ends.live ends.dead ends.deadStates ends.hasDead slots.sameList slots.sameVertex slots.allZero graph.initialCounter graph.initialVertex graph.counter graph.stepped graph.successor graph.successors walks.walkOf walks.wordOf contain.compared contain.decision contain.outcomeOf contain.wordBuffer contain.wordPart lasso.only lasso.onLetter lasso.onWord lasso.metBy lasso.metOnWord lasso.loopRuns lasso.loopVisits lasso.accepted
+computed = tt
+
+pub proved-cases : (c : Case) → List·Memᴰ c cases → Right c
+proved-cases c m = test-right c (each cases computed c m)

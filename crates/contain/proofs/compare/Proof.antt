@@ -1,0 +1,95 @@
+-- `contain::compare` meets its contract: the walk's answer tells which walk it was, and the word of a final vertex is the walk's word.
+-- Assumes nothing.
+use mathlib.Core.Path.{_≡_, sym, ap, _∙_}
+use Prim.Native.Nat.{ℕ}
+use lib.ListN.{length}
+use borrow.Author.Needs.{needs}
+use Rattle.slots.specs.Slots.{slotCount}
+use Rattle.walk.specs.Walks.{walkOf}
+use Rattle.contain.specs.Contain.{differing}
+use Rattle.contain.proofs.WalkAnswers.{ended-at, contained-outcome, full-outcome, found-final, ended-outcome, ended-word}
+use Rattle.contain.proofs.compare.Statement.{statement}
+use Rattle.contain.proofs.compare.Tie as tie
+
+walk-requires : tie.Need-walk-requires
+walk-requires c κs = search needs
+
+enum-known-n : tie.Need-enum-known-n
+enum-known-n c = search needs
+
+enum-known-place : tie.Need-enum-known-place
+enum-known-place c = search needs
+
+final-word-requires : tie.Need-final-word-requires
+final-word-requires c κs =
+    let a = c .before .before .before .before .before .before .before .before .before .before .before .args in
+    let k = c .before .before .before .before .before .before .before .walk in
+    let g = c .before .before .before .place .given in
+    found-final (a .left) (a .right) (a .bound) (a .work .now) _ _ _ _ (c .before .before .before .before .before .before .before .before .before .before .before .pre .0) (k .ensures .1)
+    (ended-at (slotCount (length (a .work .now))) (walkOf (a .left) (a .right) (a .bound) (slotCount (length (a .work .now)))) (g .0 .0) (g .0 .1 .0) (g .0 .1 .1 .0) (sym (g .1) ∙ k .ensures .0))
+
+differing-requires : tie.Need-differing-requires
+differing-requires c κs = search needs
+
+enum-known-n-2 : tie.Need-enum-known-n-2
+enum-known-n-2 c = search needs
+
+same-length : tie.Need-same-length
+same-length c = search needs
+
+returns : tie.Need-returns
+returns c =
+    let a = c .before .before .before .before .before .before .before .before .before .args in
+    let k = c .before .before .before .before .before .walk in
+    let g = c .before .n .given in
+    let d = contained-outcome (slotCount (length (a .work .now))) (a .left) (a .right) (a .bound) _ (a .word .now) (walkOf (a .left) (a .right) (a .bound) (slotCount (length (a .work .now)))) (g .0 .0) (sym (g .1) ∙ k .ensures .0) in
+    (d .0, (k .ensures .1, d .1))
+
+same-length-2 : tie.Need-same-length-2
+same-length-2 c = search needs
+
+same-length-3 : tie.Need-same-length-3
+same-length-3 c = search needs
+
+returns-2 : tie.Need-returns-2
+returns-2 c =
+    let a = c .before .before .before .before .before .before .before .before .before .before .before .before .before .before .before .args in
+    let k = c .before .before .before .before .before .before .before .before .before .before .before .walk in
+    let g = c .before .before .before .before .before .before .before .place .given in
+    let f = ended-at (slotCount (length (a .work .now))) (walkOf (a .left) (a .right) (a .bound) (slotCount (length (a .work .now)))) (g .0 .0) (g .0 .1 .0) (g .0 .1 .1 .0) (sym (g .1) ∙ k .ensures .0) in
+    let x = c .before .before .before .final-word in
+    let r = x .ensures (found-final (a .left) (a .right) (a .bound) (a .work .now) _ _ _ _ (c .before .before .before .before .before .before .before .before .before .before .before .before .before .before .before .pre .0) (k .ensures .1) f) in (
+      c .differing .ensures
+          ∙ (ap (λ (m : ℕ). differing m (g .0 .0) (x .result)) (x .kept .1 .1 .1 .1 .0)
+          ∙ ended-outcome (a .left) (a .right) (a .bound) (slotCount (length (a .work .now))) (length (a .word .now)) (x .result) (walkOf (a .left) (a .right) (a .bound) (slotCount (length (a .work .now)))) f (r .count)),
+      (k .ensures .1, ended-word (a .left) (a .right) (a .bound) (slotCount (length (a .work .now))) (a .word .now) _ (walkOf (a .left) (a .right) (a .bound) (slotCount (length (a .work .now)))) f (r .letters)),
+    )
+
+same-length-4 : tie.Need-same-length-4
+same-length-4 c = search needs
+
+returns-3 : tie.Need-returns-3
+returns-3 c =
+    let a = c .before .before .before .before .before .before .before .before .before .args in
+    let k = c .before .before .before .before .before .walk in
+    let g = c .before .n2 .given in
+    let d = full-outcome (slotCount (length (a .work .now))) (a .left) (a .right) (a .bound) _ (a .word .now) (walkOf (a .left) (a .right) (a .bound) (slotCount (length (a .work .now)))) (g .0 .0) (sym (g .1) ∙ k .ensures .0) in
+    (d .0, (k .ensures .1, d .1))
+
+pub compare-spec : {M : Type 1} → statement M
+compare-spec =
+    tie.close
+    (tie.spec
+    walk-requires
+    enum-known-n
+    enum-known-place
+    final-word-requires
+    differing-requires
+    enum-known-n-2
+    same-length
+    returns
+    same-length-2
+    same-length-3
+    returns-2
+    same-length-4
+    returns-3)

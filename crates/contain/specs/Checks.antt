@@ -1,0 +1,18 @@
+-- Checks in order: the first condition that holds decides (01, "Contain", "Verdict", "Entry, open, offer").
+-- A row of a table says of an answer that the row's condition holds and that this is the answer then.
+--   First rows x   x is the answer of a row whose condition holds, and no earlier row's does
+--   None rows      no row's condition holds
+-- Assumes nothing.
+use mathlib.Core.List.{List, [], _∷_}
+use mathlib.Core.Logic.{_⊎_}
+
+abbrev pub Row : Type 0 → Type 1
+Row X = X → Type 0
+
+abbrev pub First : {X : Type 0} → List (Row X) → X → Type 0
+First {X} [] x = ⊥
+First {X} (P ∷ rows) x = P x ⊎ (((y : X) → P y → ⊥) × First rows x)
+
+abbrev pub None : {X : Type 0} → List (Row X) → Type 0
+None {X} [] = Unit {0}
+None {X} (P ∷ rows) = ((y : X) → P y → ⊥) × None rows

@@ -1,0 +1,6 @@
+-- The computed verdict is the acceptance of lasso words.
+pub mod StateSets
+pub mod LoopRuns
+pub mod VerdictTheorem
+pub mod WordSets
+pub mod WordVerdict

@@ -1,0 +1,3 @@
+-- The lasso verdict, computed (01, "Verdict").
+pub mod Verdict
+pub mod Words
