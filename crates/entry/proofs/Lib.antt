@@ -1,0 +1,21 @@
+-- Laws of entries, what open, offer and verdict answer, and demand 3.
+pub mod EntryLaws
+pub mod Vetting
+pub mod OpenTable
+pub mod OfferTable
+pub mod VerdictTable
+pub mod OpenAnswers
+pub mod OfferAnswers
+pub mod VerdictAnswers
+pub mod OfferLeaves
+pub mod OfferShows
+pub mod LeftEntries
+pub mod OpenTurns
+pub mod OfferTurns
+pub mod Editions
+pub mod DemandThree
+pub mod EntryBytes
+pub mod EntryChecks
+pub mod OfferWalks
+pub mod OfferPassed
+pub mod OfferParts

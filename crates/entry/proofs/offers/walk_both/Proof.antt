@@ -1,0 +1,127 @@
+-- `entry::offers::walk_both` meets its contract: the forward walk's outcome gives the answer, or, where it is containment, the back walk
+-- does, from what the forward walk left in the buffers. Assumes nothing.
+use borrow.Author.Needs.{needs}
+use denote.Ref.{now}
+use Rattle.entry.proofs.OfferWalks.{forward-ends, back-follows}
+use Rattle.entry.proofs.offers.walk_both.Statement.{statement}
+use Rattle.entry.proofs.offers.walk_both.Tie as tie
+
+compare-requires : tie.Need-compare-requires
+compare-requires c κs = search needs
+
+enum-known-count : tie.Need-enum-known-count
+enum-known-count c = search needs
+
+walk-back-requires : tie.Need-walk-back-requires
+walk-back-requires c κs = search needs
+
+enum-known-place : tie.Need-enum-known-place
+enum-known-place c = search needs
+
+enum-known-number : tie.Need-enum-known-number
+enum-known-number c = search needs
+
+enum-known-slots : tie.Need-enum-known-slots
+enum-known-slots c = search needs
+
+enum-known-len : tie.Need-enum-known-len
+enum-known-len c = search needs
+
+same-length : tie.Need-same-length
+same-length c = search needs
+
+same-length-2 : tie.Need-same-length-2
+same-length-2 c = search needs
+
+returns : tie.Need-returns
+returns c =
+    let k = c .before .before .before .before .walk-back in
+    let w = c .before .before .before .before .before .before .before .before .before .before .before .before .before .before in
+    let f = w .compare in
+    let a = w .before .before .before .before .before .args in
+    back-follows (a .held) (a .offer) (a .bound) (now (a .work)) (now (a .word)) _ _ _ (f .ensures .0) (f .ensures .1 .0) (f .ensures .1 .1)
+    _ _ _ _ (c .before .before .before .before .before .before .before .before .count .given .1) (f .kept .1 .1 .1 .0) (f .kept .1 .1 .1 .1 .0)
+    (k .ensures .0) (k .ensures .1 .0) (k .ensures .1 .1)
+
+same-length-3 : tie.Need-same-length-3
+same-length-3 c = search needs
+
+same-length-4 : tie.Need-same-length-4
+same-length-4 c = search needs
+
+returns-2 : tie.Need-returns-2
+returns-2 c =
+    let w = c .before .before .before .before .before .before .before in
+    let f = w .compare in
+    let a = w .before .before .before .before .before .args in
+    forward-ends (a .held) (a .offer) (a .bound) (now (a .work)) (now (a .word)) _ _ _ (f .ensures .0) (f .ensures .1 .0) (f .ensures .1 .1)
+    _ (c .before .place .given .1) tt
+
+same-length-5 : tie.Need-same-length-5
+same-length-5 c = search needs
+
+same-length-6 : tie.Need-same-length-6
+same-length-6 c = search needs
+
+returns-3 : tie.Need-returns-3
+returns-3 c =
+    let w = c .before .before .before .before .before .before .before in
+    let f = w .compare in
+    let a = w .before .before .before .before .before .args in
+    forward-ends (a .held) (a .offer) (a .bound) (now (a .work)) (now (a .word)) _ _ _ (f .ensures .0) (f .ensures .1 .0) (f .ensures .1 .1)
+    _ (c .before .number .given .1) tt
+
+same-length-7 : tie.Need-same-length-7
+same-length-7 c = search needs
+
+same-length-8 : tie.Need-same-length-8
+same-length-8 c = search needs
+
+returns-4 : tie.Need-returns-4
+returns-4 c =
+    let w = c .before .before .before .before .before .before .before in
+    let f = w .compare in
+    let a = w .before .before .before .before .before .args in
+    forward-ends (a .held) (a .offer) (a .bound) (now (a .work)) (now (a .word)) _ _ _ (f .ensures .0) (f .ensures .1 .0) (f .ensures .1 .1)
+    _ (c .before .slots .given .1) tt
+
+same-length-9 : tie.Need-same-length-9
+same-length-9 c = search needs
+
+same-length-10 : tie.Need-same-length-10
+same-length-10 c = search needs
+
+returns-5 : tie.Need-returns-5
+returns-5 c =
+    let w = c .before .before .before .before .before .before .before in
+    let f = w .compare in
+    let a = w .before .before .before .before .before .args in
+    forward-ends (a .held) (a .offer) (a .bound) (now (a .work)) (now (a .word)) _ _ _ (f .ensures .0) (f .ensures .1 .0) (f .ensures .1 .1)
+    _ (c .before .len .given .1) tt
+
+pub walk-both-spec : {M : Type 1} → statement M
+walk-both-spec =
+    tie.close
+    (tie.spec
+    compare-requires
+    enum-known-count
+    walk-back-requires
+    enum-known-place
+    enum-known-number
+    enum-known-slots
+    enum-known-len
+    same-length
+    same-length-2
+    returns
+    same-length-3
+    same-length-4
+    returns-2
+    same-length-5
+    same-length-6
+    returns-3
+    same-length-7
+    same-length-8
+    returns-4
+    same-length-9
+    same-length-10
+    returns-5)

@@ -1,0 +1,98 @@
+-- `entry::opens::open_entry` meets its contract, check by check; the automaton that the reader hands out is in range. Assumes nothing.
+use mathlib.Core.Path.{sym, _∙_}
+use borrow.Author.Needs.{needs}
+use Rattle.file.proofs.Readings.{reading-holds, reading-refuses, reading-in-range}
+use Rattle.entry.specs.Opens.{openChecks, openOf}
+use Rattle.entry.proofs.opens.open_entry.Statement.{statement}
+use Rattle.entry.proofs.opens.open_entry.Tie as tie
+
+malformed-requires : tie.Need-malformed-requires
+malformed-requires c κs = search needs
+
+refused-requires : tie.Need-refused-requires
+refused-requires c κs = search needs
+
+returns : tie.Need-returns
+unfolding openOf openChecks
+returns c = simp (sym (c .before .before .malformed .ensures) ∙ c .before .if1 .taken) (c .refused .ensures)
+
+refused-requires-2 : tie.Need-refused-requires-2
+refused-requires-2 c κs = search needs
+
+returns-2 : tie.Need-returns-2
+unfolding openOf openChecks
+returns-2 c =
+    let b = c .before .before in
+    simp (sym (b .before .malformed .ensures) ∙ b .if1 .left, c .before .if2 .taken) (c .refused2 .ensures)
+
+read-requires : tie.Need-read-requires
+read-requires c κs = search needs
+
+refused-requires-3 : tie.Need-refused-requires-3
+refused-requires-3 c κs = search needs
+
+returns-3 : tie.Need-returns-3
+unfolding openOf openChecks
+returns-3 c =
+    let r = c .before .before .before in
+    let b = r .before .before in
+    simp (
+      sym (b .before .malformed .ensures) ∙ b .if1 .left,
+      r .before .if2 .left,
+      reading-refuses _ (r .read .result) (r .read .ensures) (c .before .if3 .taken),
+    ) (c .refused3 .ensures)
+
+has-dead-requires : tie.Need-has-dead-requires
+has-dead-requires c κs =
+    let r = c .before .before in reading-in-range _ (r .read .result) (r .read .ensures) (c .if3 .left)
+
+refused-requires-4 : tie.Need-refused-requires-4
+refused-requires-4 c κs = search needs
+
+returns-4 : tie.Need-returns-4
+unfolding openOf openChecks
+returns-4 c =
+    let d = c .before .before in
+    let r = d .before .before .before in
+    let b = r .before .before in
+    simp (
+      sym (b .before .malformed .ensures) ∙ b .if1 .left,
+      r .before .if2 .left,
+      reading-holds _ (r .read .result) (r .read .ensures) (d .before .if3 .left),
+      sym (d .has-dead .ensures) ∙ c .before .if4 .taken,
+    ) (c .refused4 .ensures)
+
+first-edition-requires : tie.Need-first-edition-requires
+first-edition-requires c κs = search needs
+
+returns-5 : tie.Need-returns-5
+unfolding openOf openChecks
+returns-5 c =
+    let d = c .before .before in
+    let r = d .before .before .before in
+    let b = r .before .before in
+    simp (
+      sym (b .before .malformed .ensures) ∙ b .if1 .left,
+      r .before .if2 .left,
+      reading-holds _ (r .read .result) (r .read .ensures) (d .before .if3 .left),
+      sym (d .has-dead .ensures) ∙ c .before .if4 .left,
+      c .first-edition .ensures,
+    )
+
+pub open-entry-spec : {M : Type 1} → statement M
+open-entry-spec =
+    tie.close
+    (tie.spec
+    malformed-requires
+    refused-requires
+    returns
+    refused-requires-2
+    returns-2
+    read-requires
+    refused-requires-3
+    returns-3
+    has-dead-requires
+    refused-requires-4
+    returns-4
+    first-edition-requires
+    returns-5)

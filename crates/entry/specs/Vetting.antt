@@ -1,0 +1,9 @@
+-- What the checks of open or offer give, as the code holds it: a refusal's number, or 0 and the file's automaton; with a refusal the
+-- automaton field holds zeros, as it does in the reader's struct. Assumes nothing.
+use Rattle.automaton.specs.Automata.{bare}
+use Rattle.entry.specs.declared.Checked.{Checked}
+use Rattle.entry.specs.Opens.{Vetted, turned, passed}
+
+abbrev pub checkedOf : Vetted → Checked
+checkedOf (turned n) = record { refusal = n; automaton = bare 0 0 0 }
+checkedOf (passed A) = record { refusal = 0; automaton = A }

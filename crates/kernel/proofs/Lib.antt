@@ -1,0 +1,2 @@
+-- Laws of the calls on an entry's bytes.
+pub mod EntryCallLaws

@@ -1,0 +1,53 @@
+-- `kernel::entry_verdict` meets its contract: bytes of no entry are refused, and of an entry's bytes verdict decides. Assumes nothing.
+use mathlib.Core.Path.{sym, ap, _∙_}
+use native.Mathlib.Omega.{arith}
+use borrow.Author.Needs.{needs}
+use borrow.Author.Tests.{not-true, not-false}
+use Rattle.entry.specs.declared.Entry.{Entry}
+use Rattle.entry.specs.Verdicts.{verdictOf}
+use Rattle.entry.specs.Numbers.{verdictNumber}
+use Rattle.kernel.proofs.EntryCallLaws.{entry-long, verdict-number-fits, no-entry-verdict, entry-verdict-number}
+use Rattle.kernel.proofs.entry_verdict.Statement.{statement}
+use Rattle.kernel.proofs.entry_verdict.Tie as tie
+
+is-entry-requires : tie.Need-is-entry-requires
+is-entry-requires c κs = search needs
+
+returns : tie.Need-returns
+returns c = sym (no-entry-verdict _ _ _ (sym (c .before .is-entry .ensures) ∙ not-true _ (c .if1 .taken)))
+
+decode-requires : tie.Need-decode-requires
+decode-requires c κs = entry-long _ (sym (c .before .is-entry .ensures) ∙ not-false _ (c .if1 .left))
+
+verdict-requires : tie.Need-verdict-requires
+verdict-requires c κs = search needs
+
+verdict-number-requires : tie.Need-verdict-number-requires
+verdict-number-requires c κs =
+    let a = c .before .before .before .before .before .before .before .args in
+    omega (
+      arith,
+      ap verdictNumber (c .verdict .ensures),
+      verdict-number-fits (c .before .decode .result) (a .stem .now) (a .turn .now),
+    )
+
+returns-2 : tie.Need-returns-2
+returns-2 c =
+    let a = c .before .before .before .before .before .before .before .before .args in
+    let k = c .before .before .before in
+    let e = sym (k .before .is-entry .ensures) ∙ not-false _ (k .if1 .left) in
+    c .verdict-number .ensures
+    ∙ ap verdictNumber
+    (c .before .verdict .ensures ∙ ap (λ (E : Entry). verdictOf E (a .stem .now) (a .turn .now)) (c .before .before .decode .ensures))
+    ∙ sym (entry-verdict-number _ _ _ e)
+
+pub entry-verdict-spec : {M : Type 1} → statement M
+entry-verdict-spec =
+    tie.close
+    (tie.spec
+    is-entry-requires
+    returns
+    decode-requires
+    verdict-requires
+    verdict-number-requires
+    returns-2)

@@ -1,0 +1,2 @@
+-- The calls for vendors on entries held as bytes.
+pub mod EntryCalls

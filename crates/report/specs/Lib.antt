@@ -1,0 +1,5 @@
+-- The listing (01, "Listing").
+pub mod Buffers
+pub mod Line
+pub mod Shown
+pub mod Listing

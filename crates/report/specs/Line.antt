@@ -1,0 +1,119 @@
+-- The line of an offer (01, "Listing"): "Fields: outcome, edition, held states, first states, percent of states saved (halves go up),
+-- forward and back count (`-` if not walked), word letters in decimal after single spaces. After an empty word the line ends at
+-- `word`. A refusal of either call prints `refused`, a space and its number .. Each line ends in byte 0A."
+--   decimal n              the digits of n, highest first
+--   percentSaved           of so many first states, so many are held: the percent saved, halves up
+--   offerLine E x w        the line of the answer x, with the entry E after the call and the letters w of the word
+--   refusedLine n          the line of refusal n
+--   lineRoom w             the bytes that are asked for a line with the letters w: a number takes at most 20, a letter and its space 4
+--   lineAfter m l d        a buffer d after the line l, for which m bytes are asked: the line in front and the rest as it was, or
+--                          nothing written where d has fewer
+--   lineLength m l d       the length that is answered: the line's, or 0 where nothing is written
+--   Lined m l d e n        the buffer d is e after the line l, and n is the length that is answered, which is within the buffer
+-- Assumes nothing.
+use mathlib.Core.Path.{_≡_}
+use mathlib.Core.Bool.{Bool, true, false, cond}
+use mathlib.Core.List.{List, [], _∷_, _++_}
+use Prim.Native.Nat.{ℕ, zero, suc, _+_, _-_, _*_, _/_, _%_, _≤_}
+use lib.Dec.{leb, ltb}
+use lib.ListN.{length, drop}
+use Rattle.automaton.specs.declared.Automaton.{Automaton}
+use Rattle.entry.specs.declared.Entry.{Entry}
+use Rattle.entry.specs.declared.OfferAnswer.{OfferAnswer}
+use Rattle.entry.specs.declared.OfferAnswer.the-variants.{Taken, Forward, Back, Refused, NoSlots, NoRoom}
+
+-- at most k digits
+unfoldable pub digits : ℕ → ℕ → List ℕ
+digits zero n = []
+digits (suc k) n = elim (ltb n 10) [ true ↦ (0x30 + n) ∷ [] | false ↦ digits k (n / 10) ++ (0x30 + n % 10) ∷ [] ]
+
+-- a number has no more digits than one more than itself
+unfoldable pub decimal : ℕ → List ℕ
+decimal n = digits (suc n) n
+
+unfoldable pub percentSaved : ℕ → ℕ → ℕ
+percentSaved first held = (200 * (first - held) + first) / (2 * first)
+
+abbrev pub space : List ℕ
+space = 0x20 ∷ []
+
+abbrev pub newline : List ℕ
+newline = 0x0a ∷ []
+
+-- "taken", "forward", "back", "refused", "usage", "long"
+abbrev pub takenText : List ℕ
+takenText = 0x74 ∷ 0x61 ∷ 0x6b ∷ 0x65 ∷ 0x6e ∷ []
+
+abbrev pub forwardText : List ℕ
+forwardText = 0x66 ∷ 0x6f ∷ 0x72 ∷ 0x77 ∷ 0x61 ∷ 0x72 ∷ 0x64 ∷ []
+
+abbrev pub backText : List ℕ
+backText = 0x62 ∷ 0x61 ∷ 0x63 ∷ 0x6b ∷ []
+
+abbrev pub refusedText : List ℕ
+refusedText = 0x72 ∷ 0x65 ∷ 0x66 ∷ 0x75 ∷ 0x73 ∷ 0x65 ∷ 0x64 ∷ []
+
+abbrev pub usageText : List ℕ
+usageText = 0x75 ∷ 0x73 ∷ 0x61 ∷ 0x67 ∷ 0x65 ∷ []
+
+abbrev pub longText : List ℕ
+longText = 0x6c ∷ 0x6f ∷ 0x6e ∷ 0x67 ∷ []
+
+-- " states ", " of ", " saved ", " walks ", " word"
+abbrev pub statesText : List ℕ
+statesText = 0x20 ∷ 0x73 ∷ 0x74 ∷ 0x61 ∷ 0x74 ∷ 0x65 ∷ 0x73 ∷ 0x20 ∷ []
+
+abbrev pub ofText : List ℕ
+ofText = 0x20 ∷ 0x6f ∷ 0x66 ∷ 0x20 ∷ []
+
+abbrev pub savedText : List ℕ
+savedText = 0x20 ∷ 0x73 ∷ 0x61 ∷ 0x76 ∷ 0x65 ∷ 0x64 ∷ 0x20 ∷ []
+
+abbrev pub walksText : List ℕ
+walksText = 0x20 ∷ 0x77 ∷ 0x61 ∷ 0x6c ∷ 0x6b ∷ 0x73 ∷ 0x20 ∷ []
+
+abbrev pub wordText : List ℕ
+wordText = 0x20 ∷ 0x77 ∷ 0x6f ∷ 0x72 ∷ 0x64 ∷ []
+
+-- "`-` if not walked"
+abbrev pub noWalk : List ℕ
+noWalk = 0x2d ∷ []
+
+-- " edition states held of first saved percent walks "
+unfoldable pub fields : Entry → List ℕ
+fields E =
+    space ++ decimal (E .edition)
+    ++ statesText ++ decimal (E .held .states)
+    ++ ofText ++ decimal (E .first)
+    ++ savedText ++ decimal (percentSaved (E .first) (E .held .states))
+    ++ walksText
+
+-- the letters, each after a space
+unfoldable pub letters : List ℕ → List ℕ
+letters [] = []
+letters (a ∷ w) = space ++ decimal a ++ letters w
+
+unfoldable pub refusedLine : ℕ → List ℕ
+refusedLine n = refusedText ++ space ++ decimal n ++ newline
+
+unfoldable pub offerLine : Entry → OfferAnswer → List ℕ → List ℕ
+offerLine E (Taken m n) w = takenText ++ fields E ++ decimal m ++ space ++ decimal n ++ newline
+offerLine E (Forward m len) w = forwardText ++ fields E ++ decimal m ++ space ++ noWalk ++ wordText ++ letters w ++ newline
+offerLine E (Back m n len) w = backText ++ fields E ++ decimal m ++ space ++ decimal n ++ wordText ++ letters w ++ newline
+offerLine E (Refused n) w = refusedLine n
+offerLine E (NoSlots i n) w = refusedLine 10
+offerLine E (NoRoom i len) w = refusedLine 11
+
+abbrev pub lineRoom : List ℕ → ℕ
+lineRoom w = 256 + 4 * length w
+
+unfoldable pub lineAfter : ℕ → List ℕ → List ℕ → List ℕ
+lineAfter m l d = cond (leb m (length d)) (l ++ drop (length l) d) d
+
+unfoldable pub lineLength : ℕ → List ℕ → List ℕ → ℕ
+lineLength m l d = cond (leb m (length d)) (length l) 0
+
+pub record Lined (m : ℕ) (l d e : List ℕ) (n : ℕ) : Type 0 where
+  pub bytes : e ≡ lineAfter m l d
+  pub answer : n ≡ lineLength m l d
+  pub within : n ≤ length e

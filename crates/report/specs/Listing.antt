@@ -1,0 +1,50 @@
+-- What the program `listing` prints (01, "Listing"): "Program `listing` opens file `first.ba`, offers `offer.ba`, with the bound as the one
+-- byte of standard input, 65,520 work bytes and 2,048 word bytes .. A refusal of either call prints `refused`, a space and its
+-- number; input of another length than one byte prints `usage`, tested first; then a file above 65,536 bytes prints `long`."
+--   listing input first offer   the line, of the bytes of standard input and of the two files
+-- Assumes nothing.
+use mathlib.Core.Bool.{Bool, true, false, cond, _||_, not}
+use mathlib.Core.List.{List, [], _∷_, _++_}
+use Prim.Native.Nat.{ℕ}
+use lib.Dec.{eqb, ltb}
+use lib.ListN.{length, getD, replicate}
+use Rattle.automaton.specs.Automata.{bare}
+use Rattle.entry.specs.declared.Entry.{Entry}
+use Rattle.entry.specs.declared.OpenResult.{OpenResult}
+use Rattle.entry.specs.declared.OpenAnswer.{OpenAnswer}
+use Rattle.entry.specs.declared.OpenAnswer.the-variants.{Opened, Refused}
+use Rattle.entry.specs.declared.OfferResult.{OfferResult}
+use Rattle.entry.specs.Opens.{openOf}
+use Rattle.entry.specs.Offers.{offerOf, offerPart}
+use Rattle.report.specs.Line.{newline, usageText, longText, refusedLine, offerLine}
+
+abbrev pub maxFile : ℕ
+maxFile = 65536
+
+abbrev pub workBytes : ℕ
+workBytes = 65520
+
+abbrev pub wordBytes : ℕ
+wordBytes = 2048
+
+-- "A fresh entry is empty"
+unfoldable pub freshEntry : Entry
+freshEntry = record { filled = false; edition = 0; first = 0; held = bare 0 0 0 }
+
+-- the offer of a file to an entry, with buffers of zeros
+unfoldable pub offerListing : Entry → List ℕ → ℕ → List ℕ
+offerListing E offer b =
+    let work : List ℕ = replicate workBytes 0 in
+    let word : List ℕ = replicate wordBytes 0 in
+    let r = offerOf E offer b work word in
+    offerLine (r .entry) (r .answer) (offerPart E offer b work word)
+
+abbrev pub openListing : OpenAnswer → Entry → List ℕ → ℕ → List ℕ
+openListing (Refused n) E offer b = refusedLine n
+openListing Opened E offer b = offerListing E offer b
+
+unfoldable pub listing : List ℕ → List ℕ → List ℕ → List ℕ
+listing input first offer =
+    cond (not (eqb (length input) 1)) (usageText ++ newline)
+    (cond (ltb maxFile (length first) || ltb maxFile (length offer)) (longText ++ newline)
+    (openListing (openOf freshEntry first .answer) (openOf freshEntry first .entry) offer (getD input 0 0)))

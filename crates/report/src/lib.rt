@@ -1,0 +1,83 @@
+// The line that the listing prints, written into a lent buffer.
+ghost use mathlib.Core.Path.{_≡_};
+ghost use mathlib.Core.List.{[], _++_};
+ghost use Prim.Native.Nat.{_+_, _*_};
+ghost use lib.Dec.{leb};
+ghost use Rattle.report.specs.Line.{newline, usageText, longText, offerLine, refusedLine, lineRoom, Lined};
+
+mod answers;
+mod listings;
+mod parts;
+mod saved;
+
+use answers::Shown;
+use answers::put_answer;
+use answers::put_refused;
+use entry::Entry;
+use entry::OfferAnswer;
+pub use listings::fresh;
+pub use listings::listing_line;
+pub use parts::put_byte;
+pub use parts::put_decimal;
+pub use parts::put_letters;
+pub use parts::put_text;
+pub use saved::percent_saved;
+
+// Whether a buffer of so many bytes has the room that is asked for a line with so many letters.
+fn has_room(size: usize, letters: usize) -> bool
+    ensures { λ r. ⌜ r ≡ leb (256 + 4 * letters) size ⌝ }
+{
+    if size < 256 {
+        return false;
+    }
+    letters <= (size - 256) / 4
+}
+
+// Writes the line of an offer to the front of the buffer, and answers its length: the entry after the call, the answer and the
+// letters of the word. With less room than is asked for nothing is written and the answer is 0.
+pub fn offer_line(entry: Entry, answer: OfferAnswer, letters: &[u8], line: &mut [u8]) -> usize
+    ensures { λ r. ⌜
+        Lined (lineRoom (now (letters .entry))) (offerLine entry answer (now (letters .entry))) (now (line .entry)) (now (line .exit)) r
+        ⌝ }
+{
+    if has_room(line.len(), letters.len()) {
+        let held = entry.held;
+        let shown = Shown {
+            edition: entry.edition,
+            states: held.states,
+            first: entry.first,
+        };
+        return put_answer(line, shown, answer, letters);
+    }
+    0
+}
+
+// Writes the line of a refusal, as offer_line does.
+pub fn refused_line(n: usize, line: &mut [u8]) -> usize
+    ensures { λ r. ⌜ Lined (lineRoom []) (refusedLine n) (now (line .entry)) (now (line .exit)) r ⌝ }
+{
+    if has_room(line.len(), 0) {
+        return put_refused(line, n);
+    }
+    0
+}
+
+// Writes the line of an input of another length than one byte, as offer_line does.
+pub fn usage_line(line: &mut [u8]) -> usize
+    ensures { λ r. ⌜ Lined (lineRoom []) (usageText ++ newline) (now (line .entry)) (now (line .exit)) r ⌝ }
+{
+    if has_room(line.len(), 0) {
+        return put_text(line, 0, b"usage\n");
+    }
+    0
+}
+
+// Writes the line of a file that is too long, as offer_line does.
+pub fn long_line(line: &mut [u8]) -> usize
+    ensures { λ r. ⌜ Lined (lineRoom []) (longText ++ newline) (now (line .entry)) (now (line .exit)) r ⌝ }
+{
+    if has_room(line.len(), 0) {
+        return put_text(line, 0, b"long\n");
+    }
+    0
+}
