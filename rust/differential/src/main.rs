@@ -1,0 +1,124 @@
+//! Compares the proved kernel, linked from its archive, with the second checker: the number of every call and every byte of every
+//! buffer. All cases are drawn from the seeds below, so each run makes the same calls. The exit status is not 0 if the two
+//! disagree, or if some outcome never came up.
+
+mod automata;
+mod buffer;
+mod containment;
+mod entries;
+mod kernel;
+mod random;
+mod tally;
+
+use std::process::ExitCode;
+use std::time::Instant;
+
+use tally::Tally;
+
+/// Pairs of drawn files for contain.
+const PAIRS: usize = 800_000;
+
+/// Pairs with long walks for contain.
+const LONG_WALKS: usize = 4_000;
+
+/// Lists of open and offer calls.
+const LISTS: usize = 20_000;
+
+/// Forged entries.
+const FORGED: usize = 20_000;
+
+/// Verdicts on words up to the limits.
+const LONG_WORDS: usize = 1_000;
+
+const PAIRS_SEED: u64 = 0x5EED_0001;
+const LONG_WALKS_SEED: u64 = 0x5EED_0002;
+const WORKED_SEED: u64 = 0x5EED_0003;
+const LISTS_SEED: u64 = 0x5EED_0004;
+const FORGED_SEED: u64 = 0x5EED_0005;
+const LONG_WORDS_SEED: u64 = 0x5EED_0006;
+
+fn main() -> ExitCode {
+    let arguments: Vec<String> = std::env::args().skip(1).collect();
+    let passed = match arguments.as_slice() {
+        [] => {
+            let contain_passed = compare_contain();
+            contain_passed & compare_entries()
+        }
+        [word] if word == "rehearse" => rehearse_entries(),
+        _ => {
+            println!("usage: differential [rehearse]");
+            false
+        }
+    };
+    println!("differential: {}", if passed { "passed" } else { "FAILED" });
+    if passed {
+        ExitCode::SUCCESS
+    } else {
+        ExitCode::FAILURE
+    }
+}
+
+fn compare_contain() -> bool {
+    let mut tally = Tally::new("contain");
+    timed(
+        &format!("contain: {PAIRS} pairs of files, seed {PAIRS_SEED:#x}"),
+        || containment::drawn_pairs(&mut tally, PAIRS_SEED, PAIRS),
+    );
+    timed(
+        &format!("contain: {LONG_WALKS} long walks, seed {LONG_WALKS_SEED:#x}"),
+        || containment::long_walks(&mut tally, LONG_WALKS_SEED, LONG_WALKS),
+    );
+    timed(&format!("contain: worked files spoilt, seed {WORKED_SEED:#x}"), || {
+        containment::worked_files(&mut tally, WORKED_SEED)
+    });
+    tally.conclude(&containment::OUTCOMES)
+}
+
+#[cfg(feature = "entries")]
+fn compare_entries() -> bool {
+    println!("entries: the kernel against the second checker");
+    check_entries(&entries::Calls {
+        open: kernel::entry_open,
+        offer: kernel::entry_offer,
+        verdict: kernel::entry_verdict,
+    })
+}
+
+#[cfg(not(feature = "entries"))]
+fn compare_entries() -> bool {
+    println!("entries: not compared, since the archive does not export them (feature `entries`)");
+    true
+}
+
+/// The second checker against itself: shows only that the calls drawn come to every outcome.
+fn rehearse_entries() -> bool {
+    println!("entries: a rehearsal, the second checker against itself");
+    check_entries(&entries::Calls {
+        open: second::entry_open,
+        offer: second::entry_offer,
+        verdict: second::entry_verdict,
+    })
+}
+
+fn check_entries(calls: &entries::Calls) -> bool {
+    let mut tallies = entries::Tallies::new();
+    timed(&format!("entries: {LISTS} lists, seed {LISTS_SEED:#x}"), || {
+        entries::lists(calls, &mut tallies, LISTS_SEED, LISTS)
+    });
+    let share_passed = tallies.conclude_share();
+    timed(&format!("entries: {FORGED} forged, seed {FORGED_SEED:#x}"), || {
+        entries::forged(calls, &mut tallies, FORGED_SEED, FORGED)
+    });
+    timed(
+        &format!("entries: {LONG_WORDS} long words, seed {LONG_WORDS_SEED:#x}"),
+        || entries::long_words(calls, &mut tallies, LONG_WORDS_SEED, LONG_WORDS),
+    );
+    tallies.conclude() & share_passed
+}
+
+/// Prints what is done, then the seconds that it took.
+fn timed(what: &str, work: impl FnOnce()) {
+    let start = Instant::now();
+    work();
+    println!("{what}: {:.1} s", start.elapsed().as_secs_f64());
+}

@@ -1,0 +1,73 @@
+//! Verdict: is a lasso word accepted?
+//!
+//! The work is linear in the word's length: the stem moves a set of states, letter by letter; the loop is turned into a relation
+//! between the states before and after one copy of it, letter by letter from its end.
+
+use crate::automaton::{closure, contains, image, members, singleton, Automaton, Relation, StateSet, MAX_STATES};
+use crate::refusal::Refusal;
+
+/// Most letters of a stem, and of a loop, that the verdict takes.
+pub const MAX_LASSO: usize = 4096;
+
+/// The verdict on the lasso word that goes through the stem once and then takes turn after turn; refusal 15 if it is no lasso
+/// word of the automaton within the limits.
+pub fn verdict(automaton: &Automaton, stem: &[u8], turn: &[u8]) -> Result<bool, Refusal> {
+    let lengths = stem.len() <= MAX_LASSO && (1..=MAX_LASSO).contains(&turn.len());
+    let outside = |&letter: &u8| !automaton.has_letter(letter);
+    if !lengths || stem.iter().chain(turn).any(outside) {
+        return Err(Refusal::Lasso);
+    }
+    Ok(accepts(automaton, stem, turn))
+}
+
+/// Does the automaton accept the lasso word? The turn is not empty; its length and the stem's have no limit. No run reads a
+/// letter outside, so a word with one is not accepted.
+pub fn accepts(automaton: &Automaton, stem: &[u8], turn: &[u8]) -> bool {
+    let outside = |&letter: &u8| !automaton.has_letter(letter);
+    if turn.is_empty() || stem.iter().chain(turn).any(outside) {
+        return false;
+    }
+    let after_stem = stem.iter().fold(singleton(automaton.initial()), |states, &letter| {
+        image(automaton.transitions(letter.into()), states)
+    });
+    let turns = Turns::new(automaton, turn);
+    let onward = closure(turns.reached);
+    let before_loop = after_stem | image(&onward, after_stem);
+    let recurs = |start: usize| members(turns.met[start]).any(|end| contains(onward[end], start));
+    members(before_loop).any(recurs)
+}
+
+/// The runs on one turn, by their first and last states.
+struct Turns {
+    /// There is a run.
+    reached: Relation,
+    /// There is a run that meets an accepting state, its first and last states included.
+    met: Relation,
+}
+
+impl Turns {
+    /// Both relations are kept side by side in one number for each first state: `reached` low, `met` high.
+    fn new(automaton: &Automaton, turn: &[u8]) -> Turns {
+        let accepting = automaton.accepting();
+        let states = automaton.states();
+        let meet = |state: usize, runs: u64| match contains(accepting, state) {
+            true => runs | runs << 32,
+            false => runs,
+        };
+        let mut runs: [u64; MAX_STATES] = std::array::from_fn(|state| meet(state, singleton(state).into()));
+        for &letter in turn.iter().rev() {
+            let transitions = automaton.transitions(letter.into());
+            let after = runs;
+            for state in 0..states {
+                let targets = members(transitions[state]);
+                let onward = targets.fold(0, |onward, target| onward | after[target]);
+                runs[state] = meet(state, onward);
+            }
+        }
+        let row = |shift: u32| move |runs: u64| (runs >> shift) as StateSet;
+        Turns {
+            reached: runs.map(row(0)),
+            met: runs.map(row(32)),
+        }
+    }
+}

@@ -1,0 +1,39 @@
+//! A second Büchi edition checker, written from document 01 alone.
+//!
+//! The proved checker is compared with this one. So nothing here is taken from the proved code or from its definitions: the two
+//! agree where both agree with the document. It is plain safe Rust without dependencies, written for speed: state sets are bits
+//! of a `u32`, the listed vertices of a walk stand in a hash set, a vertex's counters are the digits of one `u128`.
+//!
+//! One module for each chapter of the document:
+//!
+//! | Module | Chapter |
+//! |---|---|
+//! | [`automaton`] | automata and sets of states |
+//! | [`refusal`] | the table of refusals |
+//! | [`file`] | The file |
+//! | [`dead`] | Dead ends |
+//! | [`walk`] | The walk |
+//! | [`contain`] | Contain |
+//! | [`lasso`] | Verdict |
+//! | [`entry`] | Entry, open, offer |
+//! | [`listing`] | Listing |
+//!
+//! Callers that hold plain bytes and numbers use the five functions below. Each gives one number, as the document says for
+//! `contain` and the vendors' boundary for the entry.
+
+#![forbid(unsafe_code)]
+#![warn(missing_docs)]
+
+pub mod automaton;
+pub mod contain;
+pub mod dead;
+pub mod entry;
+pub mod file;
+pub mod lasso;
+pub mod listing;
+pub mod refusal;
+pub mod walk;
+
+pub use contain::contain;
+pub use entry::{entry_offer, entry_open, entry_verdict, Entry, ENTRY_BYTES};
+pub use listing::listing;

@@ -1,0 +1,86 @@
+//! The table of refusals.
+
+/// Why a call was refused: one case for each row of the document's table.
+#[derive(Clone, Copy, Debug, PartialEq, Eq)]
+pub enum Refusal {
+    /// 1: the file ends inside a record or without an end.
+    FileEnds,
+    /// 2: a mark is unknown or misplaced, or bytes follow the end.
+    Mark,
+    /// 3: a header value is outside its range.
+    Header,
+    /// 4: a state or letter is not in the header.
+    Outside,
+    /// 5: an accepting or transition record is repeated.
+    Repeated,
+    /// 6: there is a dead state.
+    Dead,
+    /// 7: the letter counts differ.
+    Letters,
+    /// 8: the bound is above 14.
+    Bound,
+    /// 9: the entry value is malformed.
+    Malformed,
+    /// 10: the walk needs more slots than the `count` there are.
+    Slots {
+        /// Number of slots of the work buffer.
+        count: usize,
+    },
+    /// 11: the word buffer is shorter than the word.
+    Word {
+        /// The word's length.
+        needed: usize,
+    },
+    /// 12: the entry is already open.
+    AlreadyOpen,
+    /// 13: the entry is empty.
+    Empty,
+    /// 14: the offer is not smaller, or the held edition is the last possible one.
+    NotSmaller,
+    /// 15: the stem or the loop has a wrong length or a letter outside.
+    Lasso,
+}
+
+impl Refusal {
+    /// The refusal's number in the table.
+    pub fn number(self) -> u8 {
+        match self {
+            Refusal::FileEnds => 1,
+            Refusal::Mark => 2,
+            Refusal::Header => 3,
+            Refusal::Outside => 4,
+            Refusal::Repeated => 5,
+            Refusal::Dead => 6,
+            Refusal::Letters => 7,
+            Refusal::Bound => 8,
+            Refusal::Malformed => 9,
+            Refusal::Slots { .. } => 10,
+            Refusal::Word { .. } => 11,
+            Refusal::AlreadyOpen => 12,
+            Refusal::Empty => 13,
+            Refusal::NotSmaller => 14,
+            Refusal::Lasso => 15,
+        }
+    }
+
+    /// The kind that stands for the refusal in a call's number: 100 plus the refusal's number.
+    pub fn kind(self) -> u64 {
+        100 + u64::from(self.number())
+    }
+
+    /// The count that comes with the refusal: the number of slots with 10, else 0.
+    pub fn count(self) -> u64 {
+        match self {
+            Refusal::Slots { count } => count as u64,
+            _ => 0,
+        }
+    }
+
+    /// The word length that comes with the refusal: the length needed with 11, else 0.
+    pub fn word_length(self) -> u64 {
+        match self {
+            Refusal::Word { needed } => needed as u64,
+            _ => 0,
+        }
+    }
+}

@@ -1,0 +1,13 @@
+//! The second checker's tests: the document's worked cases and table, and comparisons on small automata with what the
+//! document's definitions say when they are carried out literally (`definitions`).
+
+mod contain;
+mod dead;
+mod definitions;
+mod entry;
+mod file;
+mod lasso;
+mod listing;
+mod random;
+mod walk;
+mod worked;

@@ -1,0 +1,179 @@
+//! Automata as plain lists, the document's worked automata F, G, H and J, and their files.
+
+use second::automaton::Automaton;
+
+/// An automaton as a reader would write it down.
+#[derive(Clone, Debug, PartialEq, Eq)]
+pub struct Plain {
+    pub states: usize,
+    pub letters: usize,
+    pub initial: usize,
+    pub accepting: Vec<usize>,
+    pub transitions: Vec<(usize, usize, usize)>,
+}
+
+impl Plain {
+    pub fn accepts_at(&self, state: usize) -> bool {
+        self.accepting.contains(&state)
+    }
+
+    /// Targets, lowest first.
+    pub fn targets(&self, state: usize, letter: usize) -> Vec<usize> {
+        let there = |to: &usize| self.transitions.contains(&(state, letter, *to));
+        (0..self.states).filter(there).collect()
+    }
+
+    pub fn file(&self) -> Vec<u8> {
+        let header = [self.states, self.letters, self.initial].map(|value| value as u8);
+        let mut file = vec![0x41, 0x48];
+        file.extend(header);
+        for &state in &self.accepting {
+            file.extend([0x41, 0x46, state as u8]);
+        }
+        for &(from, letter, to) in &self.transitions {
+            file.extend([0x41, 0x54, from as u8, letter as u8, to as u8]);
+        }
+        file.extend([0x41, 0x45]);
+        file
+    }
+
+    /// The checker's value for this automaton.
+    pub fn read(&self) -> Automaton {
+        second::file::read(&self.file()).expect("the file is well formed")
+    }
+}
+
+pub fn f() -> Plain {
+    Plain {
+        states: 4,
+        letters: 2,
+        initial: 0,
+        accepting: vec![3],
+        transitions: vec![
+            (0, 0, 2),
+            (0, 1, 1),
+            (1, 0, 3),
+            (1, 1, 1),
+            (2, 0, 2),
+            (2, 1, 3),
+            (3, 0, 3),
+            (3, 1, 3),
+        ],
+    }
+}
+
+pub fn g() -> Plain {
+    Plain {
+        states: 3,
+        letters: 2,
+        initial: 0,
+        accepting: vec![1, 2],
+        transitions: vec![
+            (0, 0, 0),
+            (0, 0, 2),
+            (0, 1, 0),
+            (0, 1, 1),
+            (1, 0, 1),
+            (1, 0, 2),
+            (2, 1, 1),
+            (2, 1, 2),
+        ],
+    }
+}
+
+pub fn h() -> Plain {
+    Plain {
+        states: 1,
+        letters: 1,
+        initial: 0,
+        accepting: vec![0],
+        transitions: vec![(0, 0, 0)],
+    }
+}
+
+pub fn j() -> Plain {
+    Plain {
+        states: 2,
+        letters: 1,
+        initial: 0,
+        accepting: vec![1],
+        transitions: vec![(0, 0, 1), (1, 0, 1)],
+    }
+}
+
+/// One state that accepts and loops on every letter.
+pub fn everything(letters: usize) -> Plain {
+    Plain {
+        states: 1,
+        letters,
+        initial: 0,
+        accepting: vec![0],
+        transitions: (0..letters).map(|letter| (0, letter, 0)).collect(),
+    }
+}
+
+/// Accepts everything, and remembers in its runs which of the last `window` letters were 1: as a right automaton it has 2 to the
+/// power of `window` sets of states.
+pub fn window(window: usize) -> Plain {
+    let mut transitions = vec![(0, 0, 0), (0, 1, 0), (0, 1, 1), (window, 0, 0), (window, 1, 0)];
+    for state in 1..window {
+        transitions.extend([(state, 0, state + 1), (state, 1, state + 1)]);
+    }
+    Plain {
+        states: window + 1,
+        letters: 2,
+        initial: 0,
+        accepting: (0..=window).collect(),
+        transitions,
+    }
+}
+
+/// A ring of `states` states on one of two letters; only the last state accepts.
+pub fn ring(states: usize) -> Plain {
+    Plain {
+        states,
+        letters: 2,
+        initial: 0,
+        accepting: vec![states - 1],
+        transitions: (0..states).map(|q| (q, 0, (q + 1) % states)).collect(),
+    }
+}
+
+/// Never accepts on letter 0; letter 1 leads to an accepting loop.
+pub fn idle() -> Plain {
+    Plain {
+        states: 2,
+        letters: 2,
+        initial: 0,
+        accepting: vec![1],
+        transitions: vec![(0, 0, 0), (0, 1, 1), (1, 0, 1)],
+    }
+}
+
+/// Every automaton with this many states and letters; 18 possible transitions at most.
+pub fn all(states: usize, letters: usize) -> impl Iterator<Item = Plain> {
+    let mut places = Vec::new();
+    for from in 0..states {
+        for letter in 0..letters {
+            places.extend((0..states).map(|to| (from, letter, to)));
+        }
+    }
+    assert!(places.len() <= 18);
+    let chosen = 1_u32 << places.len();
+    (0..states).flat_map(move |initial| {
+        let places = places.clone();
+        (0..1_u32 << states).flat_map(move |accepting| {
+            let places = places.clone();
+            (0..chosen).map(move |transitions| Plain {
+                states,
+                letters,
+                initial,
+                accepting: (0..states).filter(|q| accepting >> q & 1 == 1).collect(),
+                transitions: (0..places.len())
+                    .filter(|place| transitions >> place & 1 == 1)
+                    .map(|place| places[place])
+                    .collect(),
+            })
+        })
+    })
+}
