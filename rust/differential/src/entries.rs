@@ -100,7 +100,7 @@ struct Terms {
 }
 
 /// One entry at each of the two checkers.
-struct Session<'a> {
+struct History<'a> {
     calls: &'a Calls,
     tallies: &'a mut Tallies,
     name: String,
@@ -117,11 +117,11 @@ fn note_differences(faults: &mut Vec<String>, pairs: &[(&str, &Buffer, &Buffer)]
     }
 }
 
-impl<'a> Session<'a> {
-    fn new(random: &mut Random, calls: &'a Calls, tallies: &'a mut Tallies, name: String, entry: &[u8]) -> Session<'a> {
+impl<'a> History<'a> {
+    fn new(random: &mut Random, calls: &'a Calls, tallies: &'a mut Tallies, name: String, entry: &[u8]) -> History<'a> {
         let compared = Buffer::holding(random, entry);
         let second = compared.clone();
-        Session {
+        History {
             calls,
             tallies,
             name,
@@ -274,12 +274,12 @@ pub fn lists(calls: &Calls, tallies: &mut Tallies, seed: u64, cases: usize) {
         let random = &mut Random::new(seed, case);
         let name = format!("list {case} of seed {seed:#x}");
         let entry = fresh(random);
-        let session = Session::new(random, calls, tallies, name, &entry);
-        list(random, session);
+        let history = History::new(random, calls, tallies, name, &entry);
+        list(random, history);
     }
 }
 
-fn list(random: &mut Random, mut session: Session) {
+fn list(random: &mut Random, mut history: History) {
     let letters = draw_letters(random);
     let states = draw_states(random).min(28);
     let mut ladder = vec![Plain::drawn(random, states, letters).trimmed()];
@@ -293,38 +293,38 @@ fn list(random: &mut Random, mut session: Session) {
         probes.push(lengths.map(|length| draw_word(random, letters, length)));
     }
     probes.push([draw_word(random, letters, 3), Vec::new()]);
-    session.verdicts(&probes);
+    history.verdicts(&probes);
     if random.chance(1, 5) {
         let (file, terms) = (ladder[0].file(), ample(random));
-        session.offer(random, &file, &terms);
+        history.offer(random, &file, &terms);
     }
     if random.chance(1, 3) {
         let file = damaged(random, &ladder[0].file());
-        session.open(random, &file);
+        history.open(random, &file);
     }
     if random.chance(1, 5) {
         let file = Plain::drawn(random, states, letters).file();
-        session.open(random, &file);
+        history.open(random, &file);
     }
     let first = ladder.pop().expect("the ladder is not empty");
     let file = first.shuffled_file(random);
-    session.open(random, &file);
-    let mut before = session.verdicts(&probes);
+    history.open(random, &file);
+    let mut before = history.verdicts(&probes);
     for _ in 0..random.between(3, 9) {
-        call(random, &mut session, &mut ladder);
-        let after = session.verdicts(&probes);
+        call(random, &mut history, &mut ladder);
+        let after = history.verdicts(&probes);
         if after != before {
-            let what = format!("{}: a verdict has changed", session.name);
-            let entry = session.second.contents().to_vec();
-            session.tallies.verdict.disagree(&what, &[("entry", &entry)]);
+            let what = format!("{}: a verdict has changed", history.name);
+            let entry = history.second.contents().to_vec();
+            history.tallies.verdict.disagree(&what, &[("entry", &entry)]);
         }
         before = after;
     }
 }
 
 /// One call on an entry that is open. The ladder holds smaller automata with the same runs, the smallest first.
-fn call(random: &mut Random, session: &mut Session, ladder: &mut Vec<Plain>) {
-    let held = session.held().expect("the entry is open");
+fn call(random: &mut Random, history: &mut History, ladder: &mut Vec<Plain>) {
+    let held = history.held().expect("the entry is open");
     let next = match ladder.last() {
         Some(plain) => plain.renumbered(random),
         None => held.without_a_transition(random).trimmed(),
@@ -334,17 +334,17 @@ fn call(random: &mut Random, session: &mut Session, ladder: &mut Vec<Plain>) {
         0..=8 => {
             ladder.pop();
             let file = next.shuffled_file(random);
-            session.offer(random, &file, &terms);
+            history.offer(random, &file, &terms);
         }
         9..=10 => {
             let file = held.without_a_transition(random).trimmed().shuffled_file(random);
-            session.offer(random, &file, &terms);
+            history.offer(random, &file, &terms);
         }
         11..=12 => {
             let file = next.shuffled_file(random);
             let bound = random.below(4) as u64;
-            let terms = session.tight(random, &file, bound);
-            session.offer(random, &file, &terms);
+            let terms = history.tight(random, &file, bound);
+            history.offer(random, &file, &terms);
         }
         13..=15 => {
             let other = match random.below(3) {
@@ -354,32 +354,32 @@ fn call(random: &mut Random, session: &mut Session, ladder: &mut Vec<Plain>) {
             };
             let file = other.shuffled_file(random);
             if random.chance(2, 3) {
-                terms = session.tight(random, &file, terms.bound);
+                terms = history.tight(random, &file, terms.bound);
             }
-            session.offer(random, &file, &terms);
+            history.offer(random, &file, &terms);
         }
         16 => {
             let file = damaged(random, &next.file());
-            session.offer(random, &file, &terms);
+            history.offer(random, &file, &terms);
         }
         17 => {
             let (states, letters) = (draw_states(random).min(8), draw_letters(random));
             let file = Plain::drawn(random, states, letters).file();
             terms.bound = draw_bound(random);
-            session.offer(random, &file, &terms);
+            history.offer(random, &file, &terms);
         }
         18 => {
             let other = if random.chance(1, 2) { held } else { next };
             let file = other.file();
             terms.bound = draw_bound(random);
-            session.offer(random, &file, &terms);
+            history.offer(random, &file, &terms);
         }
         _ => {
             let mut file = next.file();
             if random.chance(1, 2) {
                 file = damaged(random, &file);
             }
-            session.open(random, &file);
+            history.open(random, &file);
         }
     }
 }
@@ -393,16 +393,16 @@ pub fn forged(calls: &Calls, tallies: &mut Tallies, seed: u64, cases: usize) {
         let held = smaller.grown(random);
         let entry = forge(random, &held);
         let name = format!("forged entry {case} of seed {seed:#x}");
-        let mut session = Session::new(random, calls, tallies, name, &entry);
+        let mut history = History::new(random, calls, tallies, name, &entry);
         let probes = [2, 3].map(|length| [length, 1].map(|length| draw_word(random, letters, length)));
-        session.verdicts(&probes);
+        history.verdicts(&probes);
         let (file, terms) = (smaller.shuffled_file(random), ample(random));
         for _ in 0..2 {
-            session.offer(random, &file, &terms);
-            session.verdicts(&probes);
+            history.offer(random, &file, &terms);
+            history.verdicts(&probes);
         }
-        session.open(random, &file);
-        session.verdicts(&probes);
+        history.open(random, &file);
+        history.verdicts(&probes);
     }
 }
 
@@ -462,7 +462,7 @@ pub fn long_words(calls: &Calls, tallies: &mut Tallies, seed: u64, cases: usize)
         let mut entry = vec![0; ENTRY_BYTES];
         assert_eq!(second::entry_open(&mut entry, &held.file()), 0);
         let name = format!("long word {case} of seed {seed:#x}");
-        let mut session = Session::new(random, calls, tallies, name, &entry);
+        let mut history = History::new(random, calls, tallies, name, &entry);
         let stem_length = random.pick(&[0, 1, 17, MAX_LASSO - 1, MAX_LASSO, MAX_LASSO, MAX_LASSO + 1]);
         let turn_length = random.pick(&[1, 2, 31, MAX_LASSO - 1, MAX_LASSO, MAX_LASSO, MAX_LASSO + 1]);
         let mut stem = draw_word(random, held.letters, stem_length);
@@ -473,6 +473,6 @@ pub fn long_words(calls: &Calls, tallies: &mut Tallies, seed: u64, cases: usize)
                 *letter = random.pick(&[held.letters as u8, 16, 255]);
             }
         }
-        session.verdict(&stem, &turn);
+        history.verdict(&stem, &turn);
     }
 }
