@@ -205,26 +205,13 @@ module _ (f : ℕ → Bool) (b i v n : ℕ) (low : b * 8 ≤ i) (least : n ≡ l
 -- The targets of q on letter a stand in four bytes of an automaton's transitions.
 
 module _ (t : List ℕ) (q a : ℕ) where
-  bit-of-byte : (b k : ℕ) → k < 8 → transitionIn t q a (b * 8 + k) ≡ bit (getD t ((q * 16 + a) * 4 + b) 0) k
+  pub bit-of-byte : (b k : ℕ) → k < 8 → transitionIn t q a (b * 8 + k) ≡ bit (getD t ((q * 16 + a) * 4 + b) 0) k
   bit-of-byte b k h = go ((b * 8 + k) / 8) ((b * 8 + k) % 8) (omega arith) (omega arith)
     where
       go : (c j : ℕ) → c ≡ b → j ≡ k → bit (getD t ((q * 16 + a) * 4 + c) 0) j ≡ bit (getD t ((q * 16 + a) * 4 + b) 0) k
       go c j d e = ap (λ (x : ℕ). bit (getD t ((q * 16 + a) * 4 + x) 0) j) d ∙ ap (bit (getD t ((q * 16 + a) * 4 + b) 0)) e
 
-  -- with n the least member of byte b, the next target is in that byte or past it
-  module _ (b n : ℕ) (least : n ≡ leastMember (getD t ((q * 16 + a) * 4 + b) 0)) where
-    pub target-in-byte : b < 4 → n < 8 → nextFrom (transitionIn t q a) (32 - b * 8) (b * 8) ≡ b * 8 + n
-    target-in-byte h l =
-        next-in-byte (transitionIn t q a) b (b * 8) _ n (omega arith) least (λ k u. absurd (omega arith))
-        (λ k _ u. bit-of-byte b k u) 32 (omega arith) l
-
-    pub target-past-byte : b < 4 → 8 ≤ n
-        → nextFrom (transitionIn t q a) (32 - b * 8) (b * 8) ≡ nextFrom (transitionIn t q a) (32 - (b + 1) * 8) ((b + 1) * 8)
-    target-past-byte h l =
-        next-past-byte (transitionIn t q a) b (b * 8) _ n (omega arith) least (λ k u. absurd (omega arith))
-        (λ k _ u. bit-of-byte b k u) 32 ((b + 1) * 8) (omega arith) (omega arith) (omega arith) l
-
-  -- with n the least member, from i on, of the byte that holds i
+  -- with n the least member, from i on, of the byte that holds i, the next target is in that byte or past it
   module _ (i n : ℕ) (least : n ≡ leastMember (getD t ((q * 16 + a) * 4 + i / 8) 0 / 2 ^ (i % 8) * 2 ^ (i % 8))) where
     cleared : (k : ℕ) → i / 8 * 8 + k < i → bit (getD t ((q * 16 + a) * 4 + i / 8) 0 / 2 ^ (i % 8) * 2 ^ (i % 8)) k ≡ false
     cleared k u = bit-cleared (getD t ((q * 16 + a) * 4 + i / 8) 0) (i % 8) k (omega arith)
@@ -233,12 +220,12 @@ module _ (t : List ℕ) (q a : ℕ) where
         → transitionIn t q a (i / 8 * 8 + k) ≡ bit (getD t ((q * 16 + a) * 4 + i / 8) 0 / 2 ^ (i % 8) * 2 ^ (i % 8)) k
     kept k p u = bit-of-byte (i / 8) k u ∙ sym (bit-kept (getD t ((q * 16 + a) * 4 + i / 8) 0) (i % 8) k (omega arith))
 
-    pub target-in-first : i < 32 → n < 8 → nextFrom (transitionIn t q a) (32 - i) i ≡ i / 8 * 8 + n
-    target-in-first h l = next-in-byte (transitionIn t q a) (i / 8) i _ n (omega arith) least cleared kept 32 (omega arith) l
+    pub target-in-byte : i < 32 → n < 8 → nextFrom (transitionIn t q a) (32 - i) i ≡ i / 8 * 8 + n
+    target-in-byte h l = next-in-byte (transitionIn t q a) (i / 8) i _ n (omega arith) least cleared kept 32 (omega arith) l
 
-    pub target-past-first : i < 32 → 8 ≤ n
+    pub target-past-byte : i < 32 → 8 ≤ n
         → nextFrom (transitionIn t q a) (32 - i) i ≡ nextFrom (transitionIn t q a) (32 - (i / 8 + 1) * 8) ((i / 8 + 1) * 8)
-    target-past-first h l =
+    target-past-byte h l =
         next-past-byte (transitionIn t q a) (i / 8) i _ n (omega arith) least cleared kept 32 ((i / 8 + 1) * 8)
         (omega arith) (omega arith) (omega arith) l
 

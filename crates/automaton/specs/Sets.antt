@@ -3,6 +3,7 @@
 --   withBit w i     w with bit i set
 --   member S q      state q is in the set S: bit q % 8 of byte q / 8
 --   leastMember w   the number, 0 to 7, of the lowest set bit of a byte; of 0 it is 8
+--   leastMembers    the least member of each byte, in a table
 -- Assumes nothing.
 use mathlib.Core.Bool.{Bool, true, false}
 use mathlib.Core.List.{List}
@@ -10,6 +11,7 @@ use Prim.Native.Nat.{ℕ, zero, suc, _/_, _%_, _^_}
 use lib.Dec.{eqb}
 use lib.Bits.{bitOr}
 use lib.ListN.{getD}
+use Rattle.automaton.specs.Ranges.{table}
 
 abbrev pub bit : ℕ → ℕ → Bool
 bit w i = eqb (w / 2 ^ i % 2) 1
@@ -28,3 +30,7 @@ leastFrom w (suc n) i = elim (bit w i) [ true ↦ i | false ↦ leastFrom w n (s
 -- "the number, 0 to 7, of its lowest set bit; entry 0 is 8"
 unfoldable pub leastMember : ℕ → ℕ
 leastMember w = leastFrom w 8 0
+
+-- "a fixed table of 256 entries"
+unfoldable pub leastMembers : List ℕ
+leastMembers = table leastMember 256 0

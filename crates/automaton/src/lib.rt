@@ -1,11 +1,9 @@
 // A Büchi automaton as a value: equal values are equal automata, since the bits of states and letters that it lacks are zero.
 ghost use mathlib.Core.Path.{_≡_};
-ghost use Prim.Native.Nat.{_<_, _≤_};
-ghost use Rattle.automaton.specs.Automata.{accepts, transition, transitionCount, bare, withAccepting, withTransition, inRange};
+ghost use Prim.Native.Nat.{_<_};
+ghost use Rattle.automaton.specs.Automata.{accepts, headerValues, transition, bare, withAccepting, withTransition};
 
-mod counts;
 mod sets;
-mod strays;
 mod targets;
 
 pub use sets::accepts_in;
@@ -13,10 +11,10 @@ pub use sets::add_member;
 pub use sets::cleared_below;
 pub use sets::has_bit;
 pub use sets::least_member;
+pub use sets::least_members;
 pub use sets::power;
 pub use sets::wide;
 pub use sets::with_bit;
-pub use strays::header_values;
 pub use targets::add_transition;
 pub use targets::next_target;
 pub use targets::transition_in;
@@ -29,6 +27,13 @@ pub struct Automaton {
     pub initial: usize,
     pub accepting: [u8; 4],
     pub transitions: [u8; 2048],
+}
+
+// Whether a header's three numbers are in their ranges.
+pub fn header_values(states: usize, letters: usize, initial: usize) -> bool
+    ensures { λ r. ⌜ r ≡ headerValues states letters initial ⌝ }
+{
+    (1 <= states) & (states <= 32) & (1 <= letters) & (letters <= 16) & (initial < states)
 }
 
 // The automaton with these header values, no accepting state and no transition.
@@ -78,26 +83,5 @@ impl Automaton {
     {
         targets::add_transition(&mut self.transitions, q, a, r);
         self
-    }
-
-    // The number of transitions.
-    pub fn transition_count(self) -> usize
-        requires { ⌜ (self .states ≤ 32) × (self .letters ≤ 16) ⌝ }
-        ensures { λ r. ⌜ r ≡ transitionCount self ⌝ }
-    {
-        counts::transitions(&self.transitions, self.states, self.letters)
-    }
-
-    // Whether the header values are those of a file, and only states and letters of the header are used.
-    pub fn in_range(self) -> bool
-        ensures { λ r. ⌜ r ≡ inRange self ⌝ }
-    {
-        if !strays::header_values(self.states, self.letters, self.initial) {
-            return false;
-        }
-        if strays::stray_state(&self.accepting, self.states) {
-            return false;
-        }
-        !strays::stray_transition(&self.transitions, self.states, self.letters)
     }
 }

@@ -1,7 +1,7 @@
 // Sets of states, held eight states to a byte: the bits of a byte, its least member, and membership.
 ghost use mathlib.Core.Path.{_≡_};
 ghost use Prim.Native.Nat.{_<_, _^_, _/_, _*_};
-ghost use Rattle.automaton.specs.Sets.{bit, withBit, member, leastMember};
+ghost use Rattle.automaton.specs.Sets.{bit, withBit, member, leastMember, leastMembers};
 ghost use Rattle.automaton.specs.Members.{withMember};
 
 // A byte as a number. A call of it also tells its caller that a byte is below 256.
@@ -78,9 +78,17 @@ const LEAST_MEMBERS: [u8; 256] = *b"\
     \x05\x00\x01\x00\x02\x00\x01\x00\x03\x00\x01\x00\x02\x00\x01\x00\
     \x04\x00\x01\x00\x02\x00\x01\x00\x03\x00\x01\x00\x02\x00\x01\x00";
 
-// The number of the lowest set bit of a byte; of 0 it is 8.
-pub fn least_member(w: u8) -> usize
+// The table, for a call to hold and to lend: a use of the constant copies it.
+pub fn least_members() -> [u8; 256]
+    ensures { λ r. ⌜ r ≡ leastMembers ⌝ }
+{
+    LEAST_MEMBERS
+}
+
+// The number of the lowest set bit of a byte, looked up in the table; of 0 it is 8.
+pub fn least_member(table: &[u8; 256], w: u8) -> usize
+    requires { ⌜ now table ≡ leastMembers ⌝ }
     ensures { λ r. ⌜ r ≡ leastMember w ⌝ }
 {
-    wide(LEAST_MEMBERS[wide(w)])
+    wide(table[wide(w)])
 }

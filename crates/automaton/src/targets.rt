@@ -1,6 +1,7 @@
 // Transitions and the targets of a state on a letter, looked up in the bytes of an automaton's transitions.
 ghost use mathlib.Core.Path.{_≡_};
-ghost use Prim.Native.Nat.{_<_, _≤_, _-_, _*_};
+ghost use Prim.Native.Nat.{_<_, _≤_, _-_};
+ghost use Rattle.automaton.specs.Sets.{leastMembers};
 ghost use Rattle.automaton.specs.Members.{transitionIn, nextFrom, withBitFor};
 use crate::sets::cleared_below;
 use crate::sets::has_bit;
@@ -24,34 +25,29 @@ pub fn add_transition(transitions: &mut [u8; 2048], q: usize, a: usize, r: usize
     transitions[place] = with_bit(transitions[place], r % 8);
 }
 
-// The least target of q on letter a in the bytes from number `first` on; 32 where there is none.
-fn target_in_bytes(transitions: &[u8; 2048], q: usize, a: usize, first: usize) -> usize
-    requires { ⌜ (q < 32) × (a < 16) × (first ≤ 4) ⌝ }
-    ensures { λ t. ⌜ t ≡ nextFrom (transitionIn (now (transitions .entry)) q a) (32 - first * 8) (first * 8) ⌝ }
+// The least target of q on letter a that is `from` or more; 32 where there is none. It is looked for byte by byte, by the table of
+// least members.
+pub fn next_target(
+    table: &[u8; 256],
+    transitions: &[u8; 2048],
+    q: usize,
+    a: usize,
+    from: usize,
+) -> usize
+    requires { ⌜ (now table ≡ leastMembers) × (q < 32) × (a < 16) × (from ≤ 32) ⌝ }
+    ensures { λ t. ⌜ t ≡ nextFrom (transitionIn (now (transitions .entry)) q a) (32 - from) from ⌝ }
 {
-    let mut b = first;
-    while b < 4 {
-        let m = least_member(transitions[(q * 16 + a) * 4 + b]);
+    let mut r = from;
+    while r < 32 {
+        let b = r / 8;
+        let m = least_member(
+            table,
+            cleared_below(transitions[(q * 16 + a) * 4 + b], r % 8),
+        );
         if m < 8 {
             return b * 8 + m;
         }
-        b += 1;
+        r = (b + 1) * 8;
     }
     32
-}
-
-// The least target of q on letter a that is `from` or more; 32 where there is none.
-pub fn next_target(transitions: &[u8; 2048], q: usize, a: usize, from: usize) -> usize
-    requires { ⌜ (q < 32) × (a < 16) × (from ≤ 32) ⌝ }
-    ensures { λ t. ⌜ t ≡ nextFrom (transitionIn (now (transitions .entry)) q a) (32 - from) from ⌝ }
-{
-    if from >= 32 {
-        return 32;
-    }
-    let b = from / 8;
-    let m = least_member(cleared_below(transitions[(q * 16 + a) * 4 + b], from % 8));
-    if m < 8 {
-        return b * 8 + m;
-    }
-    target_in_bytes(transitions, q, a, b + 1)
 }

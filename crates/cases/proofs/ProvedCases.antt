@@ -55,7 +55,7 @@ each (d ∷ cs) t c m =
     ⊎-elim (λ e. subst (λ (x : Case). T (test x)) (sym e) (h .0)) (λ k. each cs (h .1) c k) (List·Memᴰ·cases-cons m)
 
 computed : T (every cases)
-unfolding every test judged flatMap ranges.some ranges.those ranges.table ranges.largest automata.accepts automata.transition automata.targets automata.bare automata.withAccepting automata.withTransition automata.headerValues paths.relation paths.through paths.rounds paths.closure file.header file.acceptingAt file.transitionAt file.endAt file.recordAt file.records file.readFile ends.edge ends.paths ends.live ends.dead ends.deadStates ends.hasDead slots.sameList slots.sameVertex slots.allZero graph.initialCounter graph.initialVertex graph.counter graph.stepped graph.successor graph.successors walks.walkOf walks.wordOf contain.compared contain.decision contain.outcomeOf contain.wordBuffer contain.wordPart lasso.only lasso.onLetter lasso.onWord lasso.metBy lasso.metOnWord lasso.loopRuns lasso.loopVisits lasso.accepted
+unfolding every test judged flatMap ranges.some ranges.those ranges.table ranges.largest automata.accepts automata.transition automata.targets automata.bare automata.withAccepting automata.withTransition automata.headerValues paths.relation paths.through paths.rounds paths.closure file.header file.acceptingAt file.transitionAt file.endAt file.recordAt file.records file.readFile ends.edge ends.paths ends.live ends.dead ends.deadStates ends.hasDead slots.sameList slots.sameVertex slots.allZero graph.initialCounter graph.initialVertex graph.counter graph.stepped graph.successor graph.successors walks.walkOf walks.wordOf contain.compared contain.decision contain.outcomeOf contain.wordBuffer contain.wordPart lasso.only lasso.onLetter lasso.onWord lasso.loopRuns lasso.loopVisits lasso.accepted
 computed = tt
 
 pub proved-cases : (c : Case) → List·Memᴰ c cases → Right c

@@ -1,7 +1,7 @@
 -- Laws of checks in order: where every row of a table has at most one answer, the first row whose condition holds decides one answer;
 -- a table in two parts is decided by the first part, or by the second where no row of the first applies. Assumes nothing.
-use mathlib.Core.Path.{_≡_, sym, subst, _∙_}
-use mathlib.Core.Bool.{Bool, true, false}
+use mathlib.Core.Path.{_≡_, refl, sym, subst, _∙_}
+use mathlib.Core.Bool.{Bool, true, false, cond}
 use mathlib.Core.Logic.{_⊎_, inl, inr, _↔_}
 use mathlib.Core.List.{List, [], _∷_, _++_}
 use Prim.Native.Nat.{ℕ, zero, suc, _+_, _≤_}
@@ -9,7 +9,9 @@ use native.Mathlib.Nat.{add-zero, zero-add, add-suc, suc-add, le-of-suc-le-suc, 
 use lib.Dec.{T}
 use lib.ListN.{take}
 use Rattle.automaton.proofs.Tests.{is-true}
-use Rattle.contain.specs.Checks.{Row, First, None}
+use Rattle.automaton.specs.declared.Automaton.{Automaton}
+use Rattle.file.specs.File.{Read, refused, holds}
+use Rattle.contain.specs.Checks.{Row, First, None, onRead}
 
 -- a test that decides a condition, where it passes and where it does not
 pub test-true : {P : Type 0} (c : Bool) → T c ↔ P → c ≡ true → P
@@ -17,6 +19,17 @@ test-true c i e = i .0 (is-true c e)
 
 pub test-false : {P : Type 0} (c : Bool) → T c ↔ P → c ≡ false → P → ⊥
 test-false c i e p = subst T e (i .1 p)
+
+-- what a check leads to has P: by its condition, and by what the file holds
+module _ {X : Type 0} (P : X → Type 0) where
+  pub by-test : (c : Bool) (x y : X) → (c ≡ true → P x) → (c ≡ false → P y) → P (cond c x y)
+  by-test true x y h k = h refl
+  by-test false x y h k = k refl
+
+  pub by-read : (r : Read) (stop : ℕ → X) (go : Automaton → X) → ((n : ℕ) → r ≡ refused n → P (stop n))
+      → ((A : Automaton) → r ≡ holds A → P (go A)) → P (onRead r stop go)
+  by-read (refused n) stop go h k = h n refl
+  by-read (holds A) stop go h k = k A refl
 
 -- every row has at most one answer
 abbrev pub Functional : {X : Type 0} → List (Row X) → Type 0

@@ -21,22 +21,12 @@ use Rattle.walk.specs.Walks.{walkOf, wordOf}
 use Rattle.contain.specs.declared.Outcome.{Outcome}
 use Rattle.contain.specs.declared.Outcome.the-variants.{Differs, NoRoom}
 use Rattle.contain.specs.Checks.{First}
-use Rattle.contain.specs.Contain.{Decision, stopped, walked, unless, reading, compared, decision, decided, outcomeOf}
+use Rattle.contain.specs.Contain.{Decision, stopped, walked, compared, decision, decided, outcomeOf}
 use Rattle.contain.specs.Table.{containRows}
 use Rattle.walk.proofs.WalkTheorem.{walk-full}
 use Rattle.contain.proofs.FileRows.{file-dead, both-of, both-at, both-same}
 use Rattle.contain.proofs.WalkRows.{whole-of, final-of, final-at, whole-same, final-same, going-not-final, ended-not-whole, going-enough, ended-enough}
-use Rattle.contain.proofs.ChecksLaws.{test-true, test-false, Functional, also, later, first-answer}
-
-module _ (P : Decision → Type 0) where
-  by-test : (c : Bool) (n file : ℕ) (d : Decision) → (c ≡ true → P (stopped n file)) → (c ≡ false → P d) → P (unless c n file d)
-  by-test true n file d h k = h refl
-  by-test false n file d h k = k refl
-
-  by-read : (r : Read) (file : ℕ) (k : Automaton → Decision) → ((n : ℕ) → r ≡ refused n → P (stopped n file))
-      → ((A : Automaton) → r ≡ holds A → P (k A)) → P (reading r file k)
-  by-read (refused n) file k h g = h n refl
-  by-read (holds A) file k h g = g A refl
+use Rattle.contain.proofs.ChecksLaws.{test-true, test-false, by-test, by-read, Functional, also, later, first-answer}
 
 module _ (f g : List ℕ) (b : ℕ) (work word : List ℕ) where
   abbrev S : ℕ
@@ -72,18 +62,18 @@ module _ (f g : List ℕ) (b : ℕ) (work word : List ℕ) where
   contain-first : First (containRows f g b work word) (outcomeOf f g b work word)
   unfolding outcomeOf decision compared
   contain-first =
-      by-read (From 0) (readFile f) 1 _ (λ n e. inl (n, e, refl)) λ A rA.
+      by-read (From 0) (readFile f) (λ n. stopped n 1) _ (λ n e. inl (n, e, refl)) λ A rA.
       later (λ y p. read-not-both rA (p .1))
-      (by-read (From 1) (readFile g) 2 _ (λ n e. inl (n, e, refl)) λ B rB.
+      (by-read (From 1) (readFile g) (λ n. stopped n 2) _ (λ n e. inl (n, e, refl)) λ B rB.
       later (λ y p. read-not-both rB (p .1))
-      (by-test (From 2) (ltb maxBound b) 8 0 _ (λ e. inl (ltb-true maxBound b e, refl)) λ e₁.
+      (by-test (From 2) (ltb maxBound b) (stopped 8 0) _ (λ e. inl (ltb-true maxBound b e, refl)) λ e₁.
       later (λ y p. omega (arith, p .0, ltb-false maxBound b e₁))
-      (by-test (From 3) (not (eqb (A .letters) (B .letters))) 7 0 _
+      (by-test (From 3) (not (eqb (A .letters) (B .letters))) (stopped 7 0) _
       (λ e. inl (both-of rA rB (eqb-false (A .letters) (B .letters) (not-true _ e)), refl)) λ e₂.
       later (λ y p. both-at rA rB (p .0) (eqb-true (A .letters) (B .letters) (not-false _ e₂)))
-      (by-test (From 4) (hasDead A) 6 1 _ (λ e. inl (both-of rA rB (test-true (hasDead A) (file-dead f A rA) e), refl)) λ e₃.
+      (by-test (From 4) (hasDead A) (stopped 6 1) _ (λ e. inl (both-of rA rB (test-true (hasDead A) (file-dead f A rA) e), refl)) λ e₃.
       later (λ y p. test-false (hasDead A) (file-dead f A rA) e₃ (both-at rA rB (p .0)))
-      (by-test (From 5) (hasDead B) 6 2 _ (λ e. inl (both-of rA rB (test-true (hasDead B) (file-dead g B rB) e), refl)) λ e₄.
+      (by-test (From 5) (hasDead B) (stopped 6 2) _ (λ e. inl (both-of rA rB (test-true (hasDead B) (file-dead g B rB) e), refl)) λ e₄.
       later (λ y p. test-false (hasDead B) (file-dead g B rB) e₄ (both-at rA rB (p .0)))
       (walk-first A B rA rB (walkOf A B b S) refl))))))
 

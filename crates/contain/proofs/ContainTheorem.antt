@@ -23,12 +23,12 @@ use Rattle.slots.specs.declared.Vertex.{Vertex}
 use Rattle.slots.specs.Slots.{slotCount}
 use Rattle.walk.specs.Discovery.{Node, Walk, going, ended, full}
 use Rattle.walk.specs.LagGraph.{maxBound}
-use Rattle.walk.specs.Walks.{walkOf, wordOf, NeedsMore}
+use Rattle.walk.specs.Walks.{walkOf, wordOf, wordAfter, NeedsMore}
 use Rattle.walk.proofs.WalkTheorem.{walk-decides-containment, walk-decides-difference, walk-ended, list-contained, list-differs}
 use Rattle.contain.specs.declared.Outcome.{Outcome}
 use Rattle.contain.specs.declared.Outcome.the-variants as outcome
 use Rattle.contain.specs.Checks.{None}
-use Rattle.contain.specs.Contain.{walked, compared, decision, walkOutcome, outcomeOf, written, wordBuffer}
+use Rattle.contain.specs.Contain.{walked, compared, decision, walkOutcome, outcomeOf, wordBuffer}
 use Rattle.contain.specs.Table.{Final, Whole, containRows}
 use Rattle.contain.specs.Demand2.{Passing, ListFits, Shown, Demand2}
 use Rattle.contain.proofs.ChecksLaws.{none-fewer}
@@ -92,7 +92,7 @@ module _ (f g : List ℕ) (b : ℕ) (work word : List ℕ) where
   passing-outcome p w e = rw (passing-decision p, e)
 
   passing-word : {P : Automaton → Automaton → Type 0} (p : Passing f g b P) (ns : List (Node Vertex)) (n : Node Vertex)
-      → walkOf (p .first) (p .second) b S ≡ ended ns n → wordBuffer f g b work word ≡ written (wordOf (p .first) (p .second) b ns n) word
+      → walkOf (p .first) (p .second) b S ≡ ended ns n → wordBuffer f g b work word ≡ wordAfter word (wordOf (p .first) (p .second) b ns n)
   unfolding wordBuffer
   passing-word p ns n e = rw (passing-decision p, e)
 

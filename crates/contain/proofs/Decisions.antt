@@ -15,7 +15,7 @@ use Rattle.walk.specs.Discovery.{Walk}
 use Rattle.walk.specs.Walks.{walkOf, workAfter}
 use Rattle.contain.specs.declared.Outcome.{Outcome}
 use Rattle.contain.specs.declared.Outcome.the-variants.{Refused}
-use Rattle.contain.specs.Contain.{Decision, stopped, walked, reading, compared, decision, decided, decidedWork, decidedWord, walkOutcome, walkWord}
+use Rattle.contain.specs.Contain.{Decision, stopped, walked, compared, decision, decided, decidedWork, decidedWord, walkOutcome, walkWord}
 
 module _ (A B : Automaton) (b S : ℕ) where
   pub bound-stops : maxBound < b → compared A B b S ≡ stopped 8 0

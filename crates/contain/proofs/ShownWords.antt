@@ -12,9 +12,8 @@ use Rattle.runs.specs.Containment.{Shows}
 use Rattle.automaton.proofs.Tests.{clash}
 use Rattle.slots.specs.declared.Vertex.{Vertex}
 use Rattle.walk.specs.Discovery.{Node, ended}
-use Rattle.walk.specs.Walks.{wordOf, Fits}
+use Rattle.walk.specs.Walks.{wordOf, wordAfter, Fits}
 use Rattle.walk.proofs.WalkTheorem.{list-differs}
-use Rattle.contain.specs.Contain.{written}
 use Rattle.contain.specs.Demand2.{Shown}
 
 front-word : (c : Bool) (w word : List ℕ) → c ≡ true → take (length w) (cond c (w ++ drop (length w) word) word) ≡ w
@@ -23,10 +22,10 @@ front-word false w word e = clash e refl
 
 pub written-shown : {A B : Automaton} {b S i len : ℕ} {ns : List (Node Vertex)} {n : Node Vertex} (word : List ℕ)
     → InRange B → Fits A B b S (ended ns n) → i ≡ length ns → len ≡ length (wordOf A B b ns n)
-    → leb (length (wordOf A B b ns n)) (length word) ≡ true → Shown A B b S i len (written (wordOf A B b ns n) word)
+    → leb (length (wordOf A B b ns n)) (length word) ≡ true → Shown A B b S i len (wordAfter word (wordOf A B b ns n))
 written-shown {A} {B} {b} {S} {i} {len} {ns} {n} word r fits place size room =
-    let front : take len (written (wordOf A B b ns n) word) ≡ wordOf A B b ns n =
-    subst (λ (k : ℕ). take k (written (wordOf A B b ns n) word) ≡ wordOf A B b ns n) (sym size)
+    let front : take len (wordAfter word (wordOf A B b ns n)) ≡ wordOf A B b ns n =
+    subst (λ (k : ℕ). take k (wordAfter word (wordOf A B b ns n)) ≡ wordOf A B b ns n) (sym size)
     (front-word (leb (length (wordOf A B b ns n)) (length word)) (wordOf A B b ns n) word room) in
     record {
       nodes = ns;

@@ -11,8 +11,8 @@ use Rattle.slots.specs.Slots.{slotCount}
 use Rattle.walk.specs.declared.Walked.{Walked}
 use Rattle.walk.specs.declared.Walked.the-variants as answer
 use Rattle.walk.specs.Discovery.{Node, Walk, going, ended, full}
-use Rattle.walk.specs.Walks.{walkOf, workAfter, wordOf}
-use Rattle.walk.specs.Shown.{walkedOf, wordAfter, FoundFinal}
+use Rattle.walk.specs.Walks.{walkOf, workAfter, wordOf, wordAfter}
+use Rattle.walk.specs.Shown.{walkedOf, FoundFinal}
 use Rattle.contain.specs.declared.Outcome.{Outcome}
 use Rattle.contain.specs.declared.Outcome.the-variants.{Contained, Differs, NoSlots}
 use Rattle.contain.specs.Contain.{differing, walkOutcome, walkWord}

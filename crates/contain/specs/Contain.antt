@@ -7,19 +7,20 @@
 --   workOf, wordBuffer  the work buffer and the word buffer afterwards
 --   partLength          the length of the returned part of the word buffer: the word, an empty part where there is no word
 -- Assumes nothing.
-use mathlib.Core.Bool.{Bool, true, false, cond, not}
-use mathlib.Core.List.{List, [], _∷_, _++_}
+use mathlib.Core.Bool.{Bool, cond, not}
+use mathlib.Core.List.{List}
 use Prim.Native.Nat.{ℕ, _+_, _*_}
 use lib.Dec.{eqb, leb, ltb}
-use lib.ListN.{length, take, drop}
+use lib.ListN.{length, take}
 use Rattle.automaton.specs.declared.Automaton.{Automaton}
-use Rattle.file.specs.File.{Read, refused, holds, readFile}
+use Rattle.file.specs.File.{readFile}
 use Rattle.deadend.specs.DeadEnds.{hasDead}
 use Rattle.slots.specs.declared.Vertex.{Vertex}
 use Rattle.slots.specs.Slots.{slotCount}
 use Rattle.walk.specs.Discovery.{Walk, going, ended, full}
 use Rattle.walk.specs.LagGraph.{maxBound}
-use Rattle.walk.specs.Walks.{walkOf, workAfter, wordOf}
+use Rattle.walk.specs.Walks.{walkOf, workAfter, wordOf, wordAfter}
+use Rattle.contain.specs.Checks.{onRead}
 use Rattle.contain.specs.declared.Outcome.{Outcome}
 use Rattle.contain.specs.declared.Outcome.the-variants.{Contained, Differs, Refused, NoSlots, NoRoom}
 
@@ -27,26 +28,18 @@ pub data Decision : Type 0 where
   stopped : ℕ → ℕ → Decision
   walked : Automaton → Automaton → Walk Vertex → Decision
 
--- refusal n with the file where the condition holds, else what follows
-abbrev pub unless : Bool → ℕ → ℕ → Decision → Decision
-unless true n file d = stopped n file
-unless false n file d = d
-
-abbrev pub reading : Read → ℕ → (Automaton → Decision) → Decision
-reading (refused n) file k = stopped n file
-reading (holds A) file k = k A
-
--- the checks of two automata, and the walk with S slots
+-- the checks of two automata, and the walk with S slots: a refusal where its condition holds, else what follows
 unfoldable pub compared : Automaton → Automaton → ℕ → ℕ → Decision
 compared A B b S =
-    unless (ltb maxBound b) 8 0
-    (unless (not (eqb (A .letters) (B .letters))) 7 0
-    (unless (hasDead A) 6 1
-    (unless (hasDead B) 6 2
+    cond (ltb maxBound b) (stopped 8 0)
+    (cond (not (eqb (A .letters) (B .letters))) (stopped 7 0)
+    (cond (hasDead A) (stopped 6 1)
+    (cond (hasDead B) (stopped 6 2)
     (walked A B (walkOf A B b S)))))
 
 unfoldable pub decision : List ℕ → List ℕ → ℕ → ℕ → Decision
-decision f g b S = reading (readFile f) 1 (λ A. reading (readFile g) 2 (λ B. compared A B b S))
+decision f g b S =
+    onRead (readFile f) (λ n. stopped n 1) (λ A. onRead (readFile g) (λ n. stopped n 2) (λ B. compared A B b S))
 
 -- the outcome of a walk with S slots, with room for a word of so many letters: "differs, count = place i of the final vertex";
 -- 11 "word buffer shorter than the word"
@@ -86,13 +79,9 @@ decidedWork work (walked A B w) = workAfter work w
 unfoldable pub workOf : List ℕ → List ℕ → ℕ → List ℕ → List ℕ
 workOf f g b work = decidedWork work (decision f g b (slotCount (length work)))
 
--- the word in front where it has room, and the rest of the buffer as it was
-abbrev pub written : List ℕ → List ℕ → List ℕ
-written w word = cond (leb (length w) (length word)) (w ++ drop (length w) word) word
-
 abbrev pub walkWord : Automaton → Automaton → ℕ → Walk Vertex → List ℕ → List ℕ
 walkWord A B b (going ns) word = word
-walkWord A B b (ended ns n) word = written (wordOf A B b ns n) word
+walkWord A B b (ended ns n) word = wordAfter word (wordOf A B b ns n)
 walkWord A B b (full ns) word = word
 
 abbrev pub decidedWord : ℕ → List ℕ → Decision → List ℕ

@@ -31,13 +31,12 @@ module _ (A : Automaton) (c : InRange A) where
       sym (ap (λ (b : Bool). b && transitionBit A q a r) (T-true (inHeader A q a r) (in-header-iff A q a r .1 (hq, ha, hr))))
 
   module _ (rows : List ℕ)
-      (e-rows : (q r : ℕ) → q < A .states → r < 32
+      (e-rows : (q r : ℕ) → q < A .states → r < A .states
       → holdsRow rows q r ≡ some (λ a. transitionIn (A .transitions) q a r) (A .letters) 0) where
     edge-at : (q r : ℕ) → q < A .states → r < A .states → holdsRow rows q r ≡ edge A q r
     unfolding edge
     edge-at q r hq hr =
-        let few = c .few-states in
-        e-rows q r hq (omega arith) ∙ some-same _ _ (A .letters) (λ a ha. transition-at q a r hq ha hr)
+        e-rows q r hq hr ∙ some-same _ _ (A .letters) (λ a ha. transition-at q a r hq ha hr)
 
     edges-table : relation (A .states) (holdsRow rows) ≡ relation (A .states) (edge A)
     unfolding relation

@@ -1,43 +1,67 @@
 // The dead-end test, with sets of states as words: what each state's transitions lead to, what paths of them lead to, the accepting
 // states that lie on a loop, and the reachable states that have no path to one.
 use automaton::Automaton;
-use automaton::next_target;
+use automaton::cleared_below;
+use automaton::least_member;
+use automaton::least_members;
 ghost use mathlib.Core.Path.{_≡_};
 ghost use mathlib.Core.Bool.{false, _&&_, _||_, not};
-ghost use Prim.Native.Nat.{ℕ, _<_, _≤_};
+ghost use mathlib.Core.Logic.{_⊎_};
+ghost use Prim.Native.Nat.{ℕ, _+_, _*_, _<_, _≤_};
 ghost use lib.Dec.{ltb};
 ghost use lib.ListN.{length, getD};
 ghost use Rattle.automaton.specs.Ranges.{some, table};
-ghost use Rattle.automaton.specs.Sets.{bit};
+ghost use Rattle.automaton.specs.Sets.{bit, leastMembers};
 ghost use Rattle.automaton.specs.Automata.{InRange};
 ghost use Rattle.automaton.specs.Members.{transitionIn};
 ghost use Rattle.sets.specs.Closure.{holdsRow};
 ghost use Rattle.deadend.specs.DeadEnds.{deadStates, hasDead};
 
-// The set, with the targets of q on letter a besides, listed lowest first.
-fn with_targets(transitions: &[u8; 2048], q: usize, a: usize, set: u32) -> u32
-    requires { ⌜ (q < 32) × (a < 16) ⌝ }
-    ensures { λ w. ⌜ ((r : ℕ) → r < 32 → bit w r ≡ (bit set r || transitionIn (now (transitions .entry)) q a r)) ⌝ }
+// Byte b of the targets of q on the first k letters together.
+fn edge_byte(transitions: &[u8; 2048], k: usize, q: usize, b: usize) -> u8
+    requires { ⌜ (k ≤ 16) × (q < 32) × (b < 4) ⌝ }
+    ensures { λ w. ⌜
+        ((i : ℕ) → bit w i ≡ some (λ a. bit (getD (now (transitions .entry)) ((q * 16 + a) * 4 + b) 0) i) k 0)
+        ⌝ }
+{
+    let mut byte: u8 = 0;
+    let mut a: usize = 0;
+    while a < k {
+        byte = byte | transitions[(q * 16 + a) * 4 + b];
+        a += 1;
+    }
+    byte
+}
+
+// The set, with the members of its byte b besides, listed lowest first by the table of least members.
+fn with_members(table: &[u8; 256], byte: u8, b: usize, set: u32) -> u32
+    requires { ⌜ (now table ≡ leastMembers) × (b < 4) ⌝ }
+    ensures inside { λ r. ⌜ ((i : ℕ) → i < 8 → bit r (b * 8 + i) ≡ (bit set (b * 8 + i) || bit byte i)) ⌝ }
+    ensures outside { λ r. ⌜ ((q : ℕ) → (q < b * 8) ⊎ (b * 8 + 8 ≤ q) → bit r q ≡ bit set q) ⌝ }
 {
     let mut found = set;
-    let mut t = next_target(transitions, q, a, 0);
-    while t < 32 {
-        found = sets::with_state(found, t);
-        t = next_target(transitions, q, a, t + 1);
+    let mut i: usize = 0;
+    while i < 8 {
+        let m = least_member(table, cleared_below(byte, i));
+        if m == 8 {
+            return found;
+        }
+        found = sets::with_state(found, b * 8 + m);
+        i = m + 1;
     }
     found
 }
 
-// The targets of q on the first k letters.
-fn edges(transitions: &[u8; 2048], k: usize, q: usize) -> u32
-    requires { ⌜ (k ≤ 16) × (q < 32) ⌝ }
-    ensures { λ w. ⌜ ((r : ℕ) → r < 32 → bit w r ≡ some (λ a. transitionIn (now (transitions .entry)) q a r) k 0) ⌝ }
+// The targets of q on the first k letters, as far as the first `bytes` bytes hold them.
+fn edges(table: &[u8; 256], transitions: &[u8; 2048], bytes: usize, k: usize, q: usize) -> u32
+    requires { ⌜ (now table ≡ leastMembers) × (bytes ≤ 4) × (k ≤ 16) × (q < 32) ⌝ }
+    ensures { λ w. ⌜ ((r : ℕ) → r < bytes * 8 → bit w r ≡ some (λ a. transitionIn (now (transitions .entry)) q a r) k 0) ⌝ }
 {
     let mut found: u32 = 0;
-    let mut a: usize = 0;
-    while a < k {
-        found = with_targets(transitions, q, a, found);
-        a += 1;
+    let mut b: usize = 0;
+    while b < bytes {
+        found = with_members(table, edge_byte(transitions, k, q, b), b, found);
+        b += 1;
     }
     found
 }
@@ -46,13 +70,15 @@ fn edges(transitions: &[u8; 2048], k: usize, q: usize) -> u32
 fn edge_rows(transitions: &[u8; 2048], n: usize, k: usize, rows: &mut [u32])
     requires { ⌜ (n ≤ 32) × (k ≤ 16) × (n ≤ length (now rows)) ⌝ }
     ensures { λ _. ⌜
-        ((q r : ℕ) → q < n → r < 32
+        ((q r : ℕ) → q < n → r < n
         → holdsRow (now (rows .exit)) q r ≡ some (λ a. transitionIn (now (transitions .entry)) q a r) k 0)
         ⌝ }
 {
+    let table = least_members();
+    let bytes = (n + 7) / 8;
     let mut q: usize = 0;
     while q < n {
-        rows[q] = edges(transitions, k, q);
+        rows[q] = edges(&table, transitions, bytes, k, q);
         q += 1;
     }
 }
@@ -117,12 +143,11 @@ pub fn dead_set(a: Automaton) -> u32
     requires { ⌜ InRange a ⌝ }
     ensures { λ w. ⌜ ((q : ℕ) → q < 32 → bit w q ≡ getD (deadStates a) q false) ⌝ }
 {
-    let transitions = a.transitions;
     let accepting = a.accepting;
     let n = a.states;
     let initial = a.initial;
     let mut rows = [0u32; 32];
-    edge_rows(&transitions, n, a.letters, &mut rows);
+    edge_rows(&a.transitions, n, a.letters, &mut rows);
     sets::close(&mut rows, n);
     let loops = on_loops(&rows, n, sets::of_bytes(&accepting));
     sets::add_diagonal(&mut rows, n);

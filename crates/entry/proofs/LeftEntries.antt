@@ -13,13 +13,13 @@ use Rattle.file.proofs.FileLaws.{read-same}
 use Rattle.deadend.specs.DeadEnds.{hasDead}
 use Rattle.slots.specs.Slots.{slotCount}
 use Rattle.walk.specs.LagGraph.{maxBound}
+use Rattle.contain.proofs.ChecksLaws.{by-test, by-read}
 use Rattle.entry.specs.declared.Entry.{Entry}
 use Rattle.entry.specs.declared.OfferResult.{OfferResult}
 use Rattle.entry.specs.declared.OpenAnswer.the-variants.{Opened, Refused}
 use Rattle.entry.specs.Entries.{maxEdition, malformed, smaller}
 use Rattle.entry.specs.Opens.{Vetted, turned, passed, openChecks, openOf, opened, firstEdition}
 use Rattle.entry.specs.Offers.{offerChecks, offerOf, offered, nextEdition, isTaken}
-use Rattle.entry.proofs.Vetting.{by-test, by-read}
 
 module _ (E : Entry) (f : List ℕ) where
   module _ (B : Automaton) (r : readFile f ≡ holds B) where
@@ -33,10 +33,10 @@ module _ (E : Entry) (f : List ℕ) where
     pub open-entry : openOf E f .answer ≡ Opened → openOf E f .entry ≡ firstEdition B
     unfolding openOf openChecks
     open-entry =
-        by-test LeftOpened (malformed E) 9 _ (λ _. not-opened 9) λ _.
-        by-test LeftOpened (E .filled) 12 _ (λ _. not-opened 12) λ _.
-        by-read LeftOpened (readFile f) _ (λ n _. not-opened n) λ A e.
-        by-test LeftOpened (hasDead A) 6 (passed A) (λ _. not-opened 6) λ _ _.
+        by-test LeftOpened (malformed E) (turned 9) _ (λ _. not-opened 9) λ _.
+        by-test LeftOpened (E .filled) (turned 12) _ (λ _. not-opened 12) λ _.
+        by-read LeftOpened (readFile f) turned _ (λ n _. not-opened n) λ A e.
+        by-test LeftOpened (hasDead A) (turned 6) (passed A) (λ _. not-opened 6) λ _ _.
         ap firstEdition (read-same e r)
 
   pub open-keeps : (n : ℕ) → openOf E f .answer ≡ Refused n → openOf E f .entry ≡ E
@@ -58,13 +58,13 @@ module _ (E : Entry) (f : List ℕ) (b : ℕ) (work word : List ℕ) where
     pub offer-entry : offerOf E f b work word .entry ≡ cond (isTaken (offerOf E f b work word .answer)) (nextEdition E B) E
     unfolding offerOf offerChecks
     offer-entry =
-        by-test LeftOffered (malformed E) 9 _ (λ _. refl) λ _.
-        by-test LeftOffered (not (E .filled)) 13 _ (λ _. refl) λ _.
-        by-read LeftOffered (readFile f) _ (λ _ _. refl) λ A e.
-        by-test LeftOffered (ltb maxBound b) 8 _ (λ _. refl) λ _.
-        by-test LeftOffered (not (eqb (E .held .letters) (A .letters))) 7 _ (λ _. refl) λ _.
-        by-test LeftOffered (hasDead A) 6 _ (λ _. refl) λ _.
-        by-test LeftOffered (not (smaller A (E .held)) || eqb (E .edition) maxEdition) 14 (passed A) (λ _. refl) λ _.
+        by-test LeftOffered (malformed E) (turned 9) _ (λ _. refl) λ _.
+        by-test LeftOffered (not (E .filled)) (turned 13) _ (λ _. refl) λ _.
+        by-read LeftOffered (readFile f) turned _ (λ _ _. refl) λ A e.
+        by-test LeftOffered (ltb maxBound b) (turned 8) _ (λ _. refl) λ _.
+        by-test LeftOffered (not (eqb (E .held .letters) (A .letters))) (turned 7) _ (λ _. refl) λ _.
+        by-test LeftOffered (hasDead A) (turned 6) _ (λ _. refl) λ _.
+        by-test LeftOffered (not (smaller A (E .held)) || eqb (E .edition) maxEdition) (turned 14) (passed A) (λ _. refl) λ _.
         rw (read-same r e) refl
 
   pub offer-keeps : isTaken (offerOf E f b work word .answer) ≡ false → offerOf E f b work word .entry ≡ E

@@ -13,13 +13,13 @@ use Rattle.file.specs.File.{readFile}
 use Rattle.file.proofs.FileLaws.{file-in-range, file-refusals}
 use Rattle.deadend.specs.DeadEnds.{hasDead}
 use Rattle.walk.specs.LagGraph.{maxBound}
+use Rattle.contain.proofs.ChecksLaws.{by-test, by-read}
 use Rattle.entry.specs.declared.Entry.{Entry}
 use Rattle.entry.specs.declared.Checked.{Checked}
 use Rattle.entry.specs.Entries.{maxEdition, WellFormed, malformed, smaller}
 use Rattle.entry.specs.Opens.{Vetted, turned, passed}
 use Rattle.entry.specs.Offers.{offerChecks}
 use Rattle.entry.specs.Vetting.{checkedOf}
-use Rattle.entry.proofs.Vetting.{by-test, by-read}
 use Rattle.entry.proofs.EntryChecks.{passed-well-formed}
 
 pub record Passing (E : Entry) (b : ℕ) (B : Automaton) : Type 0 where
@@ -34,13 +34,13 @@ Vets E b (passed B) = Passing E b B
 checks-vet : (E : Entry) (f : List ℕ) (b : ℕ) → Vets E b (offerChecks E f b)
 unfolding offerChecks
 checks-vet E f b =
-    by-test (Vets E b) (malformed E) 9 _ (λ _. omega arith) λ m.
-    by-test (Vets E b) (not (E .filled)) 13 _ (λ _. omega arith) λ e.
-    by-read (Vets E b) (readFile f) _ (λ n r. omega (arith, file-refusals f n r .0)) λ B r.
-    by-test (Vets E b) (ltb maxBound b) 8 _ (λ _. omega arith) λ t.
-    by-test (Vets E b) (not (eqb (E .held .letters) (B .letters))) 7 _ (λ _. omega arith) λ _.
-    by-test (Vets E b) (hasDead B) 6 _ (λ _. omega arith) λ _.
-    by-test (Vets E b) (not (smaller B (E .held)) || eqb (E .edition) maxEdition) 14 (passed B) (λ _. omega arith) λ _.
+    by-test (Vets E b) (malformed E) (turned 9) _ (λ _. omega arith) λ m.
+    by-test (Vets E b) (not (E .filled)) (turned 13) _ (λ _. omega arith) λ e.
+    by-read (Vets E b) (readFile f) turned _ (λ n r. omega (arith, file-refusals f n r .0)) λ B r.
+    by-test (Vets E b) (ltb maxBound b) (turned 8) _ (λ _. omega arith) λ t.
+    by-test (Vets E b) (not (eqb (E .held .letters) (B .letters))) (turned 7) _ (λ _. omega arith) λ _.
+    by-test (Vets E b) (hasDead B) (turned 6) _ (λ _. omega arith) λ _.
+    by-test (Vets E b) (not (smaller B (E .held)) || eqb (E .edition) maxEdition) (turned 14) (passed B) (λ _. omega arith) λ _.
     record {
       well-formed = passed-well-formed E m (not-false (E .filled) e);
       offer-in-range = file-in-range f B r;

@@ -22,7 +22,7 @@ use Rattle.walk.specs.Walks.{walkOf, wordOf}
 use Rattle.walk.proofs.WalkTheorem.{walk-ended}
 use Rattle.contain.specs.Table.{Whole}
 use Rattle.contain.specs.Demand2.{Shown}
-use Rattle.contain.proofs.ChecksLaws.{test-false}
+use Rattle.contain.proofs.ChecksLaws.{by-test, by-read, test-false}
 use Rattle.contain.proofs.WalkRows.{whole-of}
 use Rattle.contain.proofs.ShownWords.{written-shown}
 use Rattle.entry.specs.declared.Entry.{Entry}
@@ -32,7 +32,7 @@ use Rattle.entry.specs.Opens.{Vetted, turned, passed}
 use Rattle.entry.specs.Offers.{offerChecks, offerAnswer, offered, offerOf, walksWord, vettedWord, offerWord}
 use Rattle.entry.specs.Tables.{HoldsFile}
 use Rattle.entry.proofs.EntryLaws.{malformed-iff, well-formed-stable}
-use Rattle.entry.proofs.Vetting.{by-test, by-read, file-of}
+use Rattle.entry.proofs.Vetting.{file-of}
 
 -- what an answer with a word says of the test for room
 record Roomy (c : Bool) (i j len size : ℕ) : Type 0 where
@@ -102,13 +102,13 @@ module _ (E : Entry) (f : List ℕ) (b : ℕ) (work word : List ℕ) where
       → HoldsFile f (λ B. Shown (E .held) B b S m len (offerWord E f b work word))
   unfolding offerOf offerWord offerChecks
   forward-shows m len =
-      by-test (Forwards m len) (malformed E) 9 _ (λ _. refused-not-forward m len 9) λ _.
-      by-test (Forwards m len) (not (E .filled)) 13 _ (λ _. refused-not-forward m len 13) λ _.
-      by-read (Forwards m len) (readFile f) _ (λ k _. refused-not-forward m len k) λ B r.
-      by-test (Forwards m len) (ltb maxBound b) 8 _ (λ _. refused-not-forward m len 8) λ _.
-      by-test (Forwards m len) (not (eqb (E .held .letters) (B .letters))) 7 _ (λ _. refused-not-forward m len 7) λ _.
-      by-test (Forwards m len) (hasDead B) 6 _ (λ _. refused-not-forward m len 6) λ _.
-      by-test (Forwards m len) (not (smaller B (E .held)) || eqb (E .edition) maxEdition) 14 (passed B)
+      by-test (Forwards m len) (malformed E) (turned 9) _ (λ _. refused-not-forward m len 9) λ _.
+      by-test (Forwards m len) (not (E .filled)) (turned 13) _ (λ _. refused-not-forward m len 13) λ _.
+      by-read (Forwards m len) (readFile f) turned _ (λ k _. refused-not-forward m len k) λ B r.
+      by-test (Forwards m len) (ltb maxBound b) (turned 8) _ (λ _. refused-not-forward m len 8) λ _.
+      by-test (Forwards m len) (not (eqb (E .held .letters) (B .letters))) (turned 7) _ (λ _. refused-not-forward m len 7) λ _.
+      by-test (Forwards m len) (hasDead B) (turned 6) _ (λ _. refused-not-forward m len 6) λ _.
+      by-test (Forwards m len) (not (smaller B (E .held)) || eqb (E .edition) maxEdition) (turned 14) (passed B)
       (λ _. refused-not-forward m len 14) λ _ e.
       file-of r
       (walks-forward (E .held) B b S word m len (file-in-range f B r) (walkOf (E .held) B b S) (walkOf B (E .held) b S) refl e)
@@ -126,13 +126,13 @@ module _ (E : Entry) (f : List ℕ) (b : ℕ) (work word : List ℕ) where
       Whole (E .held) B b S (λ ns. m ≡ length ns) × Shown B (E .held) b S n len (offerWord E f b work word))
   unfolding offerOf offerWord offerChecks
   back-shows m n len =
-      by-test (Backs m n len) (malformed E) 9 _ (λ _. refused-not-back m n len 9) λ e₁.
-      by-test (Backs m n len) (not (E .filled)) 13 _ (λ _. refused-not-back m n len 13) λ e₂.
-      by-read (Backs m n len) (readFile f) _ (λ k _. refused-not-back m n len k) λ B r.
-      by-test (Backs m n len) (ltb maxBound b) 8 _ (λ _. refused-not-back m n len 8) λ _.
-      by-test (Backs m n len) (not (eqb (E .held .letters) (B .letters))) 7 _ (λ _. refused-not-back m n len 7) λ _.
-      by-test (Backs m n len) (hasDead B) 6 _ (λ _. refused-not-back m n len 6) λ _.
-      by-test (Backs m n len) (not (smaller B (E .held)) || eqb (E .edition) maxEdition) 14 (passed B)
+      by-test (Backs m n len) (malformed E) (turned 9) _ (λ _. refused-not-back m n len 9) λ e₁.
+      by-test (Backs m n len) (not (E .filled)) (turned 13) _ (λ _. refused-not-back m n len 13) λ e₂.
+      by-read (Backs m n len) (readFile f) turned _ (λ k _. refused-not-back m n len k) λ B r.
+      by-test (Backs m n len) (ltb maxBound b) (turned 8) _ (λ _. refused-not-back m n len 8) λ _.
+      by-test (Backs m n len) (not (eqb (E .held .letters) (B .letters))) (turned 7) _ (λ _. refused-not-back m n len 7) λ _.
+      by-test (Backs m n len) (hasDead B) (turned 6) _ (λ _. refused-not-back m n len 6) λ _.
+      by-test (Backs m n len) (not (smaller B (E .held)) || eqb (E .edition) maxEdition) (turned 14) (passed B)
       (λ _. refused-not-back m n len 14) λ _ e.
       let i = well-formed-stable E (λ h. test-false (malformed E) (malformed-iff E) e₁ (not-false (E .filled) e₂, h)) .in-range in
       file-of r (walks-back (E .held) B b S word m n len i (walkOf (E .held) B b S) (walkOf B (E .held) b S) refl refl e)

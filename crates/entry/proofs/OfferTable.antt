@@ -22,18 +22,18 @@ use Rattle.walk.specs.LagGraph.{maxBound}
 use Rattle.walk.specs.Walks.{walkOf, wordOf}
 use Rattle.walk.proofs.WalkTheorem.{walk-full}
 use Rattle.contain.specs.Checks.{First}
-use Rattle.contain.proofs.ChecksLaws.{test-true, test-false, Functional, also, later, first-answer}
+use Rattle.contain.proofs.ChecksLaws.{by-test, by-read, test-true, test-false, Functional, also, later, first-answer}
 use Rattle.contain.proofs.FileRows.{file-dead}
 use Rattle.contain.proofs.WalkRows.{whole-of, final-of, whole-at, final-at, whole-same, final-same, going-not-final, ended-not-whole, going-enough, ended-enough}
 use Rattle.entry.specs.declared.Entry.{Entry}
 use Rattle.entry.specs.declared.OfferAnswer.{OfferAnswer}
 use Rattle.entry.specs.declared.OfferAnswer.the-variants.{Forward, Back, NoRoom}
 use Rattle.entry.specs.Entries.{maxEdition, malformed, Smaller, smaller}
-use Rattle.entry.specs.Opens.{Vetted}
+use Rattle.entry.specs.Opens.{turned, Vetted}
 use Rattle.entry.specs.Offers.{offerChecks, offerAnswer, offered, offerOf}
 use Rattle.entry.specs.Tables.{offerRows}
 use Rattle.entry.proofs.EntryLaws.{malformed-iff, smaller-iff}
-use Rattle.entry.proofs.Vetting.{by-test, by-read, file-of, file-at, file-same}
+use Rattle.entry.proofs.Vetting.{file-of, file-at, file-same}
 
 -- condition 14 and its test
 unfit-iff : (E : Entry) (B : Automaton) → T (not (smaller B (E .held)) || eqb (E .edition) maxEdition)
@@ -112,20 +112,20 @@ module _ (E : Entry) (f : List ℕ) (b : ℕ) (work word : List ℕ) where
   offer-first : First (offerRows E f b work word) (offerOf E f b work word .answer)
   unfolding offerOf offerChecks
   offer-first =
-      by-test (From 0) (malformed E) 9 _ (λ e. inl (test-true (malformed E) (malformed-iff E) e, refl)) λ e₁.
+      by-test (From 0) (malformed E) (turned 9) _ (λ e. inl (test-true (malformed E) (malformed-iff E) e, refl)) λ e₁.
       later (λ y p. test-false (malformed E) (malformed-iff E) e₁ (p .0))
-      (by-test (From 1) (not (E .filled)) 13 _ (λ e. inl (not-true (E .filled) e, refl)) λ e₂.
+      (by-test (From 1) (not (E .filled)) (turned 13) _ (λ e. inl (not-true (E .filled) e, refl)) λ e₂.
       later (λ y p. clash (not-false (E .filled) e₂) (p .0))
-      (by-read (From 2) (readFile f) _ (λ n e. inl (n, e, refl)) λ B r.
+      (by-read (From 2) (readFile f) turned _ (λ n e. inl (n, e, refl)) λ B r.
       later (λ y p. read-not-both r (p .1))
-      (by-test (From 3) (ltb maxBound b) 8 _ (λ e. inl (ltb-true maxBound b e, refl)) λ e₃.
+      (by-test (From 3) (ltb maxBound b) (turned 8) _ (λ e. inl (ltb-true maxBound b e, refl)) λ e₃.
       later (λ y p. omega (arith, p .0, ltb-false maxBound b e₃))
-      (by-test (From 4) (not (eqb (E .held .letters) (B .letters))) 7 _
+      (by-test (From 4) (not (eqb (E .held .letters) (B .letters))) (turned 7) _
       (λ e. inl (file-of r (eqb-false (E .held .letters) (B .letters) (not-true _ e)), refl)) λ e₄.
       later (λ y p. file-at r (p .0) (eqb-true (E .held .letters) (B .letters) (not-false _ e₄)))
-      (by-test (From 5) (hasDead B) 6 _ (λ e. inl (file-of r (test-true (hasDead B) (file-dead f B r) e), refl)) λ e₅.
+      (by-test (From 5) (hasDead B) (turned 6) _ (λ e. inl (file-of r (test-true (hasDead B) (file-dead f B r) e), refl)) λ e₅.
       later (λ y p. test-false (hasDead B) (file-dead f B r) e₅ (file-at r (p .0)))
-      (by-test (From 6) (not (smaller B (E .held)) || eqb (E .edition) maxEdition) 14 _
+      (by-test (From 6) (not (smaller B (E .held)) || eqb (E .edition) maxEdition) (turned 14) _
       (λ e. inl (file-of r (test-true _ (unfit-iff E B) e), refl)) λ e₆.
       later (λ y p. test-false _ (unfit-iff E B) e₆ (file-at r (p .0)))
       (walks-first B r (walkOf (E .held) B b S) refl)))))))

@@ -14,8 +14,8 @@ use Rattle.slots.specs.declared.Vertex.{Vertex}
 use Rattle.walk.specs.Discovery.{Node}
 use Rattle.walk.proofs.WalkTheorem.{walk-ended, list-contained, walk-decides-difference}
 use Rattle.contain.specs.Table.{Final, Whole}
-use Rattle.contain.specs.Checks.{Row, First, None}
-use Rattle.contain.proofs.ChecksLaws.{also, none-first, first-append-cases}
+use Rattle.contain.specs.Checks.{First, None}
+use Rattle.contain.proofs.ChecksLaws.{also, none-first, first-append-cases, first-every}
 use Rattle.entry.specs.declared.Entry.{Entry}
 use Rattle.entry.specs.declared.OfferAnswer.{OfferAnswer}
 use Rattle.entry.specs.declared.OfferAnswer.the-variants.{Refused}
@@ -40,21 +40,11 @@ module _ {A B : Automaton} {b S : ℕ} (i : InRange B) where
       let e = walk-ended A B b S (w .nodes) (w .last) .1 (w .fits) in
       walk-decides-difference A B b S (i .few-states) (i .initial-below) .0 (w .nodes, w .last, e) .1
 
--- every answer of a row whose condition holds has Q
-abbrev Each : {X : Type 0} → (X → Type 0) → List (Row X) → Type 0
-Each {X} Q [] = Unit {0}
-Each {X} Q (P ∷ rows) = ((y : X) → P y → Q y) × Each Q rows
-
-first-each : {X : Type 0} (Q : X → Type 0) (rows : List (Row X)) (x : X) → Each Q rows → First rows x → Q x
-first-each Q [] x n h = absurd h
-first-each Q (P ∷ rows) x n (inl p) = n .0 x p
-first-each Q (P ∷ rows) x n (inr h) = first-each Q rows x (n .1) (h .1)
-
 module _ (E : Entry) (f : List ℕ) (b : ℕ) (work word : List ℕ) where
   -- no refusal's answer is "taken"
   pub refusal-not-taken : (x : OfferAnswer) → First (offerRefusals E f b work word) x → isTaken x ≡ false
-  refusal-not-taken x =
-      first-each (λ y. isTaken y ≡ false) (offerRefusals E f b work word) x
+  refusal-not-taken =
+      first-every (λ y. isTaken y ≡ false) (offerRefusals E f b work word)
       (also (λ y p. ap isTaken (p .1))
       (also (λ y p. ap isTaken (p .1))
       (also (λ y p. ap isTaken (p .2))

@@ -11,19 +11,14 @@ use Rattle.automaton.proofs.Tests.{clash}
 use Rattle.verdict.specs.Verdict.{accepted}
 use Rattle.verdict.proofs.VerdictTheorem.{verdict-decides-acceptance}
 use Rattle.contain.specs.Checks.{First}
-use Rattle.contain.proofs.ChecksLaws.{test-true, test-false, Functional, also, later, first-answer}
+use Rattle.contain.proofs.ChecksLaws.{test-true, test-false, by-test, Functional, also, later, first-answer}
 use Rattle.entry.specs.declared.Entry.{Entry}
 use Rattle.entry.specs.declared.VerdictAnswer.{VerdictAnswer}
 use Rattle.entry.specs.declared.VerdictAnswer.the-variants.{Yes, No, Refused}
 use Rattle.entry.specs.Entries.{WellFormed, malformed}
-use Rattle.entry.specs.Verdicts.{badLasso, unless, verdictOf}
+use Rattle.entry.specs.Verdicts.{badLasso, verdictOf}
 use Rattle.entry.specs.Tables.{verdictRows}
 use Rattle.entry.proofs.EntryLaws.{malformed-iff, well-formed-stable, bad-lasso-iff}
-
-by-test : (P : VerdictAnswer → Type 0) (c : Bool) (n : ℕ) (x : VerdictAnswer) → (c ≡ true → P (Refused n)) → (c ≡ false → P x)
-    → P (unless c n x)
-by-test P true n x h k = h refl
-by-test P false n x h k = k refl
 
 module _ (E : Entry) (u v : List ℕ) where
   -- the answer of the rows from k on
@@ -40,11 +35,11 @@ module _ (E : Entry) (u v : List ℕ) where
   verdict-first : First (verdictRows E u v) (verdictOf E u v)
   unfolding verdictOf
   verdict-first =
-      by-test (From 0) (malformed E) 9 _ (λ e. inl (test-true (malformed E) (malformed-iff E) e, refl)) λ e₁.
+      by-test (From 0) (malformed E) (Refused 9) _ (λ e. inl (test-true (malformed E) (malformed-iff E) e, refl)) λ e₁.
       later (λ y p. test-false (malformed E) (malformed-iff E) e₁ (p .0))
-      (by-test (From 1) (not (E .filled)) 13 _ (λ e. inl (not-true (E .filled) e, refl)) λ e₂.
+      (by-test (From 1) (not (E .filled)) (Refused 13) _ (λ e. inl (not-true (E .filled) e, refl)) λ e₂.
       later (λ y p. clash (not-false (E .filled) e₂) (p .0))
-      (by-test (From 2) (badLasso (E .held .letters) u v) 15 _
+      (by-test (From 2) (badLasso (E .held .letters) u v) (Refused 15) _
       (λ e. inl (test-true _ (bad-lasso-iff (E .held .letters) u v) e, refl)) λ e₃.
       later (λ y p. test-false _ (bad-lasso-iff (E .held .letters) u v) e₃ (p .0))
       (accepted-first

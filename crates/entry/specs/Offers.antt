@@ -19,23 +19,24 @@ use Rattle.slots.specs.Slots.{slotCount}
 use Rattle.walk.specs.Discovery.{Walk, going, ended, full}
 use Rattle.walk.specs.LagGraph.{maxBound}
 use Rattle.walk.specs.Walks.{walkOf, workAfter, wordOf}
+use Rattle.contain.specs.Checks.{onRead}
 use Rattle.contain.specs.Contain.{walkWord}
 use Rattle.entry.specs.declared.Entry.{Entry}
 use Rattle.entry.specs.declared.OfferResult.{OfferResult}
 use Rattle.entry.specs.declared.OfferAnswer.{OfferAnswer}
 use Rattle.entry.specs.declared.OfferAnswer.the-variants.{Taken, Forward, Back, Refused, NoSlots, NoRoom}
 use Rattle.entry.specs.Entries.{maxEdition, malformed, smaller}
-use Rattle.entry.specs.Opens.{Vetted, turned, passed, unless, reading}
+use Rattle.entry.specs.Opens.{Vetted, turned, passed}
 
 unfoldable pub offerChecks : Entry → List ℕ → ℕ → Vetted
 offerChecks E f b =
-    unless (malformed E) 9
-    (unless (not (E .filled)) 13
-    (reading (readFile f)
-    (λ B. unless (ltb maxBound b) 8
-    (unless (not (eqb (E .held .letters) (B .letters))) 7
-    (unless (hasDead B) 6
-    (unless (not (smaller B (E .held)) || eqb (E .edition) maxEdition) 14
+    cond (malformed E) (turned 9)
+    (cond (not (E .filled)) (turned 13)
+    (onRead (readFile f) turned
+    (λ B. cond (ltb maxBound b) (turned 8)
+    (cond (not (eqb (E .held .letters) (B .letters))) (turned 7)
+    (cond (hasDead B) (turned 6)
+    (cond (not (smaller B (E .held)) || eqb (E .edition) maxEdition) (turned 14)
     (passed B)))))))
 
 abbrev pub nextEdition : Entry → Automaton → Entry

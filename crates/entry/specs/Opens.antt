@@ -3,12 +3,13 @@
 --   firstEdition   the entry of an opened automaton
 --   openOf         the answer and the entry
 -- Assumes nothing.
-use mathlib.Core.Bool.{Bool, true, false}
+use mathlib.Core.Bool.{true, cond}
 use mathlib.Core.List.{List}
 use Prim.Native.Nat.{ℕ}
 use Rattle.automaton.specs.declared.Automaton.{Automaton}
-use Rattle.file.specs.File.{Read, refused, holds, readFile}
+use Rattle.file.specs.File.{readFile}
 use Rattle.deadend.specs.DeadEnds.{hasDead}
+use Rattle.contain.specs.Checks.{onRead}
 use Rattle.entry.specs.declared.Entry.{Entry}
 use Rattle.entry.specs.declared.OpenResult.{OpenResult}
 use Rattle.entry.specs.declared.OpenAnswer.{OpenAnswer}
@@ -19,18 +20,12 @@ pub data Vetted : Type 0 where
   turned : ℕ → Vetted
   passed : Automaton → Vetted
 
--- refusal n where the condition holds, else what follows
-abbrev pub unless : Bool → ℕ → Vetted → Vetted
-unless true n v = turned n
-unless false n v = v
-
-abbrev pub reading : Read → (Automaton → Vetted) → Vetted
-reading (refused n) k = turned n
-reading (holds A) k = k A
-
+-- a refusal where its condition holds, else what follows
 unfoldable pub openChecks : Entry → List ℕ → Vetted
 openChecks E f =
-    unless (malformed E) 9 (unless (E .filled) 12 (reading (readFile f) (λ A. unless (hasDead A) 6 (passed A))))
+    cond (malformed E) (turned 9)
+    (cond (E .filled) (turned 12)
+    (onRead (readFile f) turned (λ A. cond (hasDead A) (turned 6) (passed A))))
 
 abbrev pub firstEdition : Automaton → Entry
 firstEdition A = record { filled = true; edition = 0; first = A .states; held = A }

@@ -28,7 +28,7 @@ pub fn malformed(entry: Entry) -> bool
     if !entry.filled {
         return false;
     }
-    if !entry.held.in_range() {
+    if !measure::in_range(entry.held) {
         return true;
     }
     if deadend::has_dead(entry.held) {
@@ -48,7 +48,7 @@ pub fn smaller(offer: Automaton, held: Automaton) -> bool
     if offer.states != held.states {
         return false;
     }
-    offer.transition_count() < held.transition_count()
+    measure::transition_count(offer) < measure::transition_count(held)
 }
 
 // Whether some letter of the word is not one of the first `letters`.

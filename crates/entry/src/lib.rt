@@ -10,6 +10,7 @@ mod verdicts;
 pub use conditions::bad_lasso;
 pub use conditions::malformed;
 pub use conditions::smaller;
+pub use offers::is_taken;
 pub use offers::offer_checks;
 pub use offers::offer_entry;
 pub use offers::offer_part;

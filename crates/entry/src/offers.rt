@@ -148,7 +148,7 @@ fn walk_both(
 }
 
 // Whether the answer is "taken".
-fn is_taken(answer: OfferAnswer) -> bool
+pub fn is_taken(answer: OfferAnswer) -> bool
     ensures { λ r. ⌜ r ≡ isTaken answer ⌝ }
 {
     match answer {

@@ -15,7 +15,8 @@ use Rattle.automaton.specs.declared.Automaton.{Automaton}
 use Rattle.automaton.specs.Automata.{accepts, transition, bare, withAccepting, withTransition, headerValues}
 use Rattle.automaton.proofs.Tests.{and-both, T-true, not-T-false}
 use Rattle.automaton.proofs.Bits.{bare-accepts, bare-transition, bare-header}
-use Rattle.file.specs.File.{holds, Step, over, next, marked, header, acceptingAt, transitionAt, endAt, recordAt, records, readFile}
+use Rattle.records.specs.Marks.{marked}
+use Rattle.file.specs.File.{holds, Step, over, next, header, acceptingAt, transitionAt, endAt, recordAt, records, readFile}
 use Rattle.file.proofs.RecordSteps.{HeaderStep, no-header, starts, RecordStep, fault, ends, adds-state, adds-transition, header-step, record-step, records-over, readAfter, read-file, read-over, read-next}
 use Rattle.file.proofs.FileLaws.{bare-whole, read-not-both, read-same}
 use Rattle.file.proofs.Items.{Item, accepting-item, transition-item, Has, Within, withItem, withItems, Distinct, within-same, Fit, fit-of, fit-within, fit-distinct, with-items-has-iff, with-items-header}

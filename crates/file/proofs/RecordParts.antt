@@ -1,31 +1,31 @@
 -- A record read in two parts, its bytes and then what it does to the automaton so far, is the record of the definition; and the cases
 -- of each part. Each law goes by the tests in their order. Assumes nothing.
 use mathlib.Core.Path.{_≡_, refl, sym, ap, subst, _∙_}
-use mathlib.Core.Bool.{Bool, true, false, cond, _&&_, not}
+use mathlib.Core.Bool.{Bool, true, false, cond, _&&_}
 use mathlib.Core.List.{List}
-use Prim.Native.Nat.{ℕ, _+_, _-_, _≤_, _<_}
+use Prim.Native.Nat.{ℕ, _+_, _≤_, _<_}
 use native.Mathlib.Omega.{arith}
 use lib.Dec.{eqb, ltb}
 use lib.ListN.{length, getD}
-use borrow.Author.Tests.{le-leb, lt-leb, lt-ltb, le-ltb, eq-eqb, ne-eqb}
+use borrow.Author.Tests.{le-leb, lt-leb, lt-ltb, le-ltb}
 use Rattle.automaton.specs.declared.Automaton.{Automaton}
 use Rattle.automaton.specs.Sets.{member}
 use Rattle.automaton.specs.Automata.{accepts, transition, bare, withAccepting, withTransition, headerValues}
 use Rattle.automaton.specs.Members.{transitionIn, withMember, withBitFor}
 use Rattle.automaton.proofs.InRange.{header-values-iff}
 use Rattle.automaton.proofs.Bits.{bare-header}
+use Rattle.records.specs.declared.Record.{Record}
+use Rattle.records.specs.declared.Record.the-variants.{Fault, Accepting, Transition, End}
+use Rattle.records.specs.Marks.{has, marked}
+use Rattle.records.specs.Records.{checkRecord, acceptingRecord, transitionRecord, endRecord, recordIn}
 use Rattle.file.specs.declared.Header.{Header}
-use Rattle.file.specs.declared.Cursor.{Cursor}
 use Rattle.file.specs.declared.Start.{Start}
 use Rattle.file.specs.declared.Start.the-variants.{NoHeader, Begins}
-use Rattle.file.specs.declared.Record.{Record}
-use Rattle.file.specs.declared.Record.the-variants.{Fault, Accepting, Transition, End}
 use Rattle.file.specs.declared.Progress.{Progress}
 use Rattle.file.specs.declared.Progress.the-variants.{Refused, Whole, Goes}
-use Rattle.file.specs.File.{Read, Step, over, next, refused, holds, check, has, marked, header, acceptingAt, transitionAt, endAt}
+use Rattle.file.specs.File.{Read, Step, over, next, refused, holds, check, header, acceptingAt, transitionAt, endAt}
 use Rattle.file.specs.File.{recordAt, records, readFile}
-use Rattle.file.specs.Records.{wholeOf, startStep, checkRecord, acceptingRecord, transitionRecord, endRecord, recordIn, takes}
-use Rattle.file.specs.Records.{progressStep, readPast, leftBy, Taken}
+use Rattle.file.specs.Taking.{wholeOf, startStep, takes, progressStep, readPast, leftBy, Taken}
 use Rattle.file.proofs.RecordSteps.{HeaderStep, no-header, starts, header-step, record-advances}
 use Rattle.file.proofs.RecordSteps.{readAfter, read-file, read-over, read-next}
 
@@ -85,68 +85,36 @@ module _ (s : List ℕ) where
     header-values n k i v h p q r d =
         rw (le-leb 2 (length s) (omega arith), e, le-leb 5 (length s) h, d, p, q, r)
 
--- The bytes.
-
-module _ (s : List ℕ) (i : ℕ) where
-  pub record-short : length s - i < 2 → recordIn s i ≡ Fault 1
-  unfolding recordIn
-  record-short h = rw (lt-leb (i + 2) (length s) (omega arith))
-
-  module _ (h : i + 2 ≤ length s) where
-    pub record-unmarked : (getD s i 0 ≡ 0x41 → ⊥) → recordIn s i ≡ Fault 2
-    unfolding recordIn
-    record-unmarked e = rw (le-leb (i + 2) (length s) h, ne-eqb (getD s i 0) 0x41 e)
-
-    module _ (e : getD s i 0 ≡ 0x41) where
-      pub record-unknown : (getD s (i + 1) 0 ≡ 0x46 → ⊥) → (getD s (i + 1) 0 ≡ 0x54 → ⊥) → (getD s (i + 1) 0 ≡ 0x45 → ⊥)
-          → recordIn s i ≡ Fault 2
-      unfolding recordIn
-      record-unknown x y z =
-          let b = getD s (i + 1) 0 in
-          rw (le-leb (i + 2) (length s) h, e, ne-eqb b 0x46 x, ne-eqb b 0x54 y, ne-eqb b 0x45 z)
-
-      pub record-accepting : getD s (i + 1) 0 ≡ 0x46 → recordIn s i ≡ acceptingRecord s i
-      unfolding recordIn
-      record-accepting d = rw (le-leb (i + 2) (length s) h, e, d)
-
-      pub record-transition : getD s (i + 1) 0 ≡ 0x54 → recordIn s i ≡ transitionRecord s i
-      unfolding recordIn
-      record-transition d = rw (le-leb (i + 2) (length s) h, e, d)
-
-      pub record-end : getD s (i + 1) 0 ≡ 0x45 → recordIn s i ≡ endRecord s i
-      unfolding recordIn
-      record-end d = rw (le-leb (i + 2) (length s) h, e, d)
-
 -- What a record does.
 
-module _ (h : Header) (s t : List ℕ) (c : Cursor) where
+module _ (h : Header) (s t : List ℕ) (j : ℕ) where
   module _ (q : ℕ) where
-    pub takes-unknown-state : h .states ≤ q → takes (Accepting q c) (wholeOf h s t) ≡ over (refused 4)
+    pub takes-unknown-state : h .states ≤ q → takes (Accepting q j) (wholeOf h s t) ≡ over (refused 4)
     unfolding takes
     takes-unknown-state l = rw (le-ltb q (h .states) l)
 
     module _ (l : q < h .states) where
-      pub takes-repeated-state : member s q ≡ true → takes (Accepting q c) (wholeOf h s t) ≡ over (refused 5)
+      pub takes-repeated-state : member s q ≡ true → takes (Accepting q j) (wholeOf h s t) ≡ over (refused 5)
       unfolding takes accepts
       takes-repeated-state e = rw (lt-ltb q (h .states) l, e)
 
-      pub takes-state : member s q ≡ false → takes (Accepting q c) (wholeOf h s t) ≡ next (c .at) (wholeOf h (withMember s q) t)
+      pub takes-state : member s q ≡ false → takes (Accepting q j) (wholeOf h s t) ≡ next j (wholeOf h (withMember s q) t)
       unfolding takes accepts withAccepting
       takes-state e = rw (lt-ltb q (h .states) l, e)
 
   module _ (q a r : ℕ) where
     pub takes-unknown : (ltb q (h .states) && ltb a (h .letters) && ltb r (h .states)) ≡ false
-        → takes (Transition q a r c) (wholeOf h s t) ≡ over (refused 4)
+        → takes (Transition q a r j) (wholeOf h s t) ≡ over (refused 4)
     unfolding takes
     takes-unknown e = rw e
 
     module _ (e : (ltb q (h .states) && ltb a (h .letters) && ltb r (h .states)) ≡ true) where
-      pub takes-repeated : transitionIn t q a r ≡ true → takes (Transition q a r c) (wholeOf h s t) ≡ over (refused 5)
+      pub takes-repeated : transitionIn t q a r ≡ true → takes (Transition q a r j) (wholeOf h s t) ≡ over (refused 5)
       unfolding takes transition
       takes-repeated d = rw (e, d)
 
       pub takes-transition : transitionIn t q a r ≡ false
-          → takes (Transition q a r c) (wholeOf h s t) ≡ next (c .at) (wholeOf h s (withBitFor t q a r))
+          → takes (Transition q a r j) (wholeOf h s t) ≡ next j (wholeOf h s (withBitFor t q a r))
       unfolding takes transition withTransition
       takes-transition d = rw (e, d)
 
@@ -164,9 +132,9 @@ module _ (s : List ℕ) (i : ℕ) (A B : Automaton) (p : Progress) (w : Read) (i
   pub reading-ends : p ≡ Whole → w ≡ holds B
   reading-ends d = reading-goes-on d ∙ read-over s (holds B)
 
-  pub reading-advances : (c : Cursor) → p ≡ Goes c → (i + 3 ≤ c .at) × (c .at ≤ length s) × (w ≡ readAfter s (next (c .at) B))
-  reading-advances c d =
-      let a = record-advances s i (c .at) A B (e ∙ ap (λ (x : Progress). progressStep x B) d) in
+  pub reading-advances : (j : ℕ) → p ≡ Goes j → (i + 3 ≤ j) × (j ≤ length s) × (w ≡ readAfter s (next j B))
+  reading-advances j d =
+      let a = record-advances s i j A B (e ∙ ap (λ (x : Progress). progressStep x B) d) in
       (a .0, a .1, reading-goes-on d)
 
 -- What a header that is there says of its file.

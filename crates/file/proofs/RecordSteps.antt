@@ -12,7 +12,8 @@ use borrow.Author.Tests.{lt-leb}
 use Rattle.automaton.specs.declared.Automaton.{Automaton}
 use Rattle.automaton.specs.Automata.{accepts, transition, bare, withAccepting, withTransition, headerValues}
 use Rattle.automaton.proofs.InRange.{inHeader, in-header-iff}
-use Rattle.file.specs.File.{Read, refused, holds, Step, over, next, check, has, marked, header, acceptingAt, transitionAt, endAt, recordAt, records, readFile}
+use Rattle.records.specs.Marks.{has, marked}
+use Rattle.file.specs.File.{Read, refused, holds, Step, over, next, check, header, acceptingAt, transitionAt, endAt, recordAt, records, readFile}
 
 -- The cases of a step.
 

@@ -11,10 +11,11 @@
 use mathlib.Core.Bool.{Bool, true, false, cond, _&&_, not}
 use mathlib.Core.List.{List}
 use Prim.Native.Nat.{ℕ, zero, suc, _+_}
-use lib.Dec.{eqb, leb, ltb}
+use lib.Dec.{eqb, ltb}
 use lib.ListN.{length, getD}
 use Rattle.automaton.specs.declared.Automaton.{Automaton}
 use Rattle.automaton.specs.Automata.{accepts, transition, bare, withAccepting, withTransition, headerValues}
+use Rattle.records.specs.Marks.{has, marked}
 use Rattle.file.specs.declared.Reading.{Reading}
 
 pub data Read : Type 0 where
@@ -29,14 +30,6 @@ pub data Step : Type 0 where
 abbrev pub check : Bool → ℕ → Step → Step
 check true n s = s
 check false n s = over (refused n)
-
--- n bytes stand from position i on
-abbrev pub has : List ℕ → ℕ → ℕ → Bool
-has s i n = leb (i + n) (length s)
-
--- the two mark bytes at position i are 41 and m
-abbrev pub marked : List ℕ → ℕ → ℕ → Bool
-marked s i m = eqb (getD s i 0) 0x41 && eqb (getD s (i + 1) 0) m
 
 -- "`41 48` header: number of states n (1 to 32), number of letters k (1 to 16), initial state. First, and only once."
 unfoldable pub header : List ℕ → Step

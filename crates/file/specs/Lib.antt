@@ -1,3 +1,3 @@
 -- The file (01, "The file").
 pub mod File
-pub mod Records
+pub mod Taking

@@ -3,10 +3,10 @@ ghost use mathlib.Core.Path.{_≡_};
 ghost use Prim.Native.Nat.{_≤_};
 ghost use lib.ListN.{length};
 ghost use Rattle.file.specs.File.{refused, holds, readFile, readingOf};
-ghost use Rattle.file.specs.Records.{wholeOf, readPast, recordIn};
+ghost use Rattle.file.specs.Taking.{wholeOf, readPast};
 use automaton::Automaton;
 
-mod bytes;
+mod first;
 mod taking;
 
 // What reading a file gives: refusal 1 to 5, or 0 and the automaton. With a refusal the automaton field holds zeros.
@@ -28,33 +28,11 @@ pub enum Start {
     Begins(Header),
 }
 
-// A position in a file.
-pub struct Cursor {
-    pub at: usize,
-}
-
-// A record past the header, as far as its bytes go: refusal 1 or 2; or its fields, and the position after it.
-pub enum Record {
-    Fault(usize),
-    Accepting(usize, Cursor),
-    Transition(usize, usize, usize, Cursor),
-    End,
-}
-
 // What a record does to the reading: it is refused, it ends with the whole automaton, or it goes on at a position.
 pub enum Progress {
     Refused(usize),
     Whole,
-    Goes(Cursor),
-}
-
-impl Cursor {
-    // The record at the cursor.
-    pub fn record(self, file: &[u8]) -> Record
-        ensures { λ r. ⌜ r ≡ recordIn (now (file .entry)) (self .at) ⌝ }
-    {
-        bytes::record_at(file, self.at)
-    }
+    Goes(usize),
 }
 
 // The reading that a refusal gives.
@@ -90,12 +68,12 @@ fn read_records(file: &[u8], header: Header) -> Reading
 {
     let mut accepting = [0u8; 4];
     let mut transitions = [0u8; 2048];
-    let mut cursor = Cursor { at: 5 };
+    let mut at = 5;
     loop {
-        match taking::take_record(file, cursor, header, &mut accepting, &mut transitions) {
+        match taking::take_record(file, at, header, &mut accepting, &mut transitions) {
             Progress::Refused(number) => return refused(number),
             Progress::Whole => return whole(header, accepting, transitions),
-            Progress::Goes(next) => cursor = next,
+            Progress::Goes(next) => at = next,
         }
     }
 }
@@ -104,7 +82,7 @@ fn read_records(file: &[u8], header: Header) -> Reading
 pub fn read(file: &[u8]) -> Reading
     ensures { λ r. ⌜ r ≡ readingOf (readFile (now (file .entry))) ⌝ }
 {
-    match bytes::read_header(file) {
+    match first::read_header(file) {
         Start::NoHeader(number) => refused(number),
         Start::Begins(header) => read_records(file, header),
     }

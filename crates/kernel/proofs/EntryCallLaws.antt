@@ -47,7 +47,7 @@ use Rattle.entry.specs.Offers.{
 use Rattle.entry.specs.Bytes.{entryLength, isEntry, entryOf, FitsBytes}
 use Rattle.entry.specs.Numbers.{openNumber, offerNumber, verdictNumber}
 use Rattle.entry.proofs.EntryLaws.{malformed-iff, well-formed-stable}
-use Rattle.entry.proofs.Vetting.{by-test, by-read}
+use Rattle.contain.proofs.ChecksLaws.{by-test, by-read}
 use Rattle.entry.proofs.VerdictAnswers.{VerdictRefusal, malformed-entry, empty-entry, bad-lasso, VerdictListed, verdict-numbers}
 use Rattle.entry.proofs.OpenAnswers.{OpenRefusal, already-open, bad-file, dead-state, OpenListed, open-numbers}
 use Rattle.entry.proofs.OpenAnswers as opens
@@ -128,10 +128,10 @@ module _ (E : Entry) (f : List ℕ) where
   pub opened-fits : isOpened (openOf E f .answer) ≡ true → FitsBytes (openOf E f .entry)
   unfolding openOf openChecks
   opened-fits =
-      by-test OpenedFits (malformed E) 9 _ (λ _. not-opened 9) λ _.
-      by-test OpenedFits (E .filled) 12 _ (λ _. not-opened 12) λ _.
-      by-read OpenedFits (readFile f) _ (λ n _. not-opened n) λ A e.
-      by-test OpenedFits (hasDead A) 6 (passed A) (λ _. not-opened 6) λ _ _.
+      by-test OpenedFits (malformed E) (turned 9) _ (λ _. not-opened 9) λ _.
+      by-test OpenedFits (E .filled) (turned 12) _ (λ _. not-opened 12) λ _.
+      by-read OpenedFits (readFile f) turned _ (λ n _. not-opened n) λ A e.
+      by-test OpenedFits (hasDead A) (turned 6) (passed A) (λ _. not-opened 6) λ _ _.
       first-edition-fits A (file-in-range f A e)
 
 module _ (s f : List ℕ) where
@@ -258,13 +258,13 @@ module _ (E : Entry) (f : List ℕ) (b : ℕ) (work word : List ℕ) where
   pub taken-fits : isTaken (offerOf E f b work word .answer) ≡ true → FitsBytes (offerOf E f b work word .entry)
   unfolding offerOf offerChecks
   taken-fits =
-      by-test TakenFits (malformed E) 9 _ (λ _. not-taken 9) λ e₁.
-      by-test TakenFits (not (E .filled)) 13 _ (λ _. not-taken 13) λ e₂.
-      by-read TakenFits (readFile f) _ (λ n _. not-taken n) λ B r.
-      by-test TakenFits (ltb maxBound b) 8 _ (λ _. not-taken 8) λ _.
-      by-test TakenFits (not (eqb (E .held .letters) (B .letters))) 7 _ (λ _. not-taken 7) λ _.
-      by-test TakenFits (hasDead B) 6 _ (λ _. not-taken 6) λ _.
-      by-test TakenFits (not (smaller B (E .held)) || eqb (E .edition) maxEdition) 14 (passed B) (λ _. not-taken 14) λ _ e.
+      by-test TakenFits (malformed E) (turned 9) _ (λ _. not-taken 9) λ e₁.
+      by-test TakenFits (not (E .filled)) (turned 13) _ (λ _. not-taken 13) λ e₂.
+      by-read TakenFits (readFile f) turned _ (λ n _. not-taken n) λ B r.
+      by-test TakenFits (ltb maxBound b) (turned 8) _ (λ _. not-taken 8) λ _.
+      by-test TakenFits (not (eqb (E .held .letters) (B .letters))) (turned 7) _ (λ _. not-taken 7) λ _.
+      by-test TakenFits (hasDead B) (turned 6) _ (λ _. not-taken 6) λ _.
+      by-test TakenFits (not (smaller B (E .held)) || eqb (E .edition) maxEdition) (turned 14) (passed B) (λ _. not-taken 14) λ _ e.
       let w = well-formed-stable E (λ h. test-false (malformed E) (malformed-iff E) e₁ (not-false (E .filled) e₂, h)) in
       rw e (next-edition-fits E B w (file-in-range f B r))
 

@@ -11,7 +11,6 @@ ghost use Rattle.contain.specs.Contain.{outcomeOf, workOf, wordBuffer, outcomeN
 ghost use Rattle.contain.specs.Demand2.{Demand2};
 ghost use Rattle.entry.specs.declared.OfferAnswer.the-variants.{NoSlots};
 ghost use Rattle.entry.specs.Bytes.{entryLength, FitsBytes};
-ghost use Rattle.entry.specs.Offers.{isTaken};
 ghost use Rattle.entry.specs.Numbers.{openNumber, packedOffer, offerNumber, verdictNumber};
 ghost use Rattle.kernel.specs.EntryCalls.{
   isOpened,
@@ -121,20 +120,6 @@ pub extern "C" fn entry_open(entry: &mut [u8], file: &[u8]) -> u64
     open_number(answer)
 }
 
-// Whether the answer is "taken".
-fn is_taken(answer: OfferAnswer) -> bool
-    ensures { λ r. ⌜ r ≡ isTaken answer ⌝ }
-{
-    match answer {
-        OfferAnswer::Taken(_, _) => true,
-        OfferAnswer::Forward(_, _) => false,
-        OfferAnswer::Back(_, _, _) => false,
-        OfferAnswer::Refused(_) => false,
-        OfferAnswer::NoSlots(_, _) => false,
-        OfferAnswer::NoRoom(_, _) => false,
-    }
-}
-
 // Kind, the two counts, word length and walk in one number.
 fn packed_offer(kind: usize, forward: usize, back: usize, len: usize, walk: usize) -> u64
     requires { ⌜ packedOffer kind forward back len walk < 2 ^ 64 ⌝ }
@@ -202,6 +187,6 @@ pub extern "C" fn entry_offer(
     }
     let offered = entry::offer_entry(entry::bytes::decode(entry), file, bound, work, word);
     let answer = offered.answer;
-    store(is_taken(answer), offered.entry, entry);
+    store(entry::is_taken(answer), offered.entry, entry);
     offer_number(answer)
 }

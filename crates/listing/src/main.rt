@@ -20,9 +20,9 @@ fn load(path: &[u8], buffer: &mut [u8]) -> usize
 // The buffers have a byte more than the longest input and the longest file that are accepted, so that a longer one shows.
 fn main() {
     let mut input = [0u8; 2];
-    let mut first = [0u8; 65537];
-    let mut offer = [0u8; 65537];
-    let mut line = [0u8; 8448];
+    let mut first = [0u8; report::MAX_FILE + 1];
+    let mut offer = [0u8; report::MAX_FILE + 1];
+    let mut line = [0u8; report::ROOM];
     let given = io::read_full(STDIN_FILENO, &mut input);
     let opened = load(b"first.ba", &mut first);
     let offered = load(b"offer.ba", &mut offer);

@@ -15,6 +15,8 @@ use answers::put_answer;
 use answers::put_refused;
 use entry::Entry;
 use entry::OfferAnswer;
+pub use listings::MAX_FILE;
+pub use listings::ROOM;
 pub use listings::fresh;
 pub use listings::listing_line;
 pub use parts::put_byte;

@@ -1,3 +1,3 @@
--- Laws of closures and of sets and relations held as words.
+-- Laws of closures, and of sets and relations held as words.
 pub mod Closure
 pub mod Rows

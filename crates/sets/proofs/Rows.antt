@@ -98,7 +98,7 @@ bit-first : (w : ℕ) → bit w 0 ≡ eqb (w % 2) 1
 bit-first w = ap (λ (x : ℕ). eqb (x % 2) 1) (div-one w)
 
 -- the bits below k of a number and those from k on
-bit-low : (k a r i : ℕ) → i < k → bit (a * 2 ^ k + r) i ≡ bit r i
+pub bit-low : (k a r i : ℕ) → i < k → bit (a * 2 ^ k + r) i ≡ bit r i
 bit-low zero a r i h = absurd (omega arith)
 bit-low (suc k) a r zero h =
     bit-first (a * 2 ^ suc k + r) ∙ ap (λ (x : ℕ). eqb x 1) (block-odd a k r) ∙ sym (bit-first r)
@@ -108,7 +108,7 @@ bit-low (suc k) a r (suc i) h =
     ∙ bit-low k a (r / 2) i (omega arith)
     ∙ sym (bit-half r i)
 
-bit-high : (k a r i : ℕ) → r < 2 ^ k → bit (a * 2 ^ k + r) (k + i) ≡ bit a i
+pub bit-high : (k a r i : ℕ) → r < 2 ^ k → bit (a * 2 ^ k + r) (k + i) ≡ bit a i
 bit-high k a r i h =
     ap (λ (x : ℕ). eqb (x % 2) 1) (sym (shr-shr (a * 2 ^ k + r) k i) ∙ ap (λ (x : ℕ). x / 2 ^ i) (high a k h))
 

@@ -1,2 +1,2 @@
--- Relations on the states, and their transitive closure.
+-- Relations on the states and their transitive closure.
 pub mod Closure

@@ -52,7 +52,7 @@ returns c =
     let shut = bytes .before .before .before .before in
     let edged = shut .before .before .before in
     let entry = edged .before .before .before .before .before in
-    dead-at (entry .args .a) (entry .pre) (edged .edge-rows .last .1 .1 .1 .0) (edged .edge-rows .ensures)
+    dead-at (entry .args .t1) (entry .pre) (edged .edge-rows .last .1 .1 .1 .0) (edged .edge-rows .ensures)
     (shut .close .last .0) (shut .close .ensures)
     (bytes .of-bytes .result) (looped .on-loops .result) (bytes .of-bytes .ensures) (looped .on-loops .ensures)
     (diagonal .add-diagonal .last .0) (diagonal .add-diagonal .ensures)

@@ -1,8 +1,9 @@
 -- `deadend::edge_rows` meets its contract. The loop's invariant: each row below q has the targets of its state. Assumes nothing.
 use mathlib.Core.Path.{_≡_, refl, _∙_}
 use mathlib.Core.List.{List}
-use Prim.Native.Nat.{ℕ, _≤_, _<_, _-_}
+use Prim.Native.Nat.{ℕ, _+_, _*_, _/_, _≤_, _<_, _-_}
 use native.Mathlib.Omega.{arith}
+use borrow.Author.Needs.{needs}
 use lib.ListN.{length, length-set}
 use Rattle.automaton.specs.Ranges.{some}
 use Rattle.automaton.specs.Sets.{bit}
@@ -11,21 +12,28 @@ use Rattle.sets.proofs.Rows.{Rewritten, rewriting-begins, rewriting-goes-on}
 use Rattle.deadend.proofs.edge_rows.Statement.{statement}
 use Rattle.deadend.proofs.edge_rows.Tie as tie
 
--- the word w has the targets of q on the first k letters
-abbrev Targets : List ℕ → ℕ → ℕ → ℕ → Type 0
-Targets t k q w = (r : ℕ) → r < 32 → bit w r ≡ some (λ a. transitionIn t q a r) k 0
+-- the word w has the targets of q on the first k letters, as far as m bytes hold them
+abbrev Targets : List ℕ → ℕ → ℕ → ℕ → ℕ → Type 0
+Targets t m k q w = (r : ℕ) → r < m * 8 → bit w r ≡ some (λ a. transitionIn t q a r) k 0
 
 abbrev Inv-loop : tie.InvT-loop
-Inv-loop transitions n k rows₀ q₀ rows q = (q ≤ n) × (length rows ≡ length rows₀) × Rewritten (Targets transitions k) rows₀ q rows
+Inv-loop transitions n k rows₀ table bytes q₀ rows q =
+    (q ≤ n) × (length rows ≡ length rows₀) × Rewritten (Targets transitions bytes k) rows₀ q rows
 
 abbrev μ-loop : tie.MeasureT-loop
-μ-loop transitions n k rows₀ q₀ rows q = n - q
+μ-loop transitions n k rows₀ table bytes q₀ rows q = n - q
+
+least-members-requires : tie.Need-least-members-requires Inv-loop μ-loop
+least-members-requires c κs = search needs
+
+add-bytes : tie.Need-add-bytes Inv-loop μ-loop
+add-bytes c = omega arith
 
 loop-holds : tie.Need-loop-holds Inv-loop μ-loop
 loop-holds c = (omega arith, refl, rewriting-begins _)
 
 edges-requires : tie.Need-edges-requires Inv-loop μ-loop
-edges-requires c κs = omega arith
+edges-requires c κs = search needs
 
 mul-rows : tie.Need-mul-rows Inv-loop μ-loop
 mul-rows c = omega arith
@@ -41,7 +49,7 @@ loop-less c = omega arith
 
 loop-again : tie.Need-loop-again Inv-loop μ-loop
 loop-again c =
-    let l = c .before .before .loop in (
+    let l = c .before .before .before .loop in (
       omega arith,
       length-set (l .rows) (l .q) (c .edges .result) ∙ l .inv .1,
       rewriting-goes-on (l .q) (l .rows) (c .edges .result) (omega arith) (l .inv .2) (c .edges .ensures),
@@ -51,7 +59,7 @@ same-length : tie.Need-same-length Inv-loop μ-loop
 same-length c = c .before .loop .inv .1
 
 returns : tie.Need-returns Inv-loop μ-loop
-returns c q r h m = c .before .loop .inv .2 .done q (omega arith) r m
+returns c q r h m = c .before .loop .inv .2 .done q (omega arith) r (omega arith)
 
 pub edge-rows-spec : {M : Type 1} → statement M
 edge-rows-spec =
@@ -59,6 +67,8 @@ edge-rows-spec =
     (tie.spec
     Inv-loop
     μ-loop
+    least-members-requires
+    add-bytes
     loop-holds
     edges-requires
     mul-rows

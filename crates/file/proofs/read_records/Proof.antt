@@ -1,4 +1,4 @@
--- `read_records` meets its contract. The invariant: read on from the cursor, with the automaton so far, the file gives the answer of
+-- `read_records` meets its contract. The invariant: read on from the position, with the automaton so far, the file gives the answer of
 -- the whole; the measure is the number of bytes left. Assumes nothing.
 use mathlib.Core.Path.{_≡_, refl, sym, ap, _∙_}
 use Prim.Native.Nat.{_-_, _≤_}
@@ -7,7 +7,7 @@ use denote.Ref.{now}
 use lib.ListN.{length}
 use Rattle.automaton.specs.Automata.{bare}
 use Rattle.file.specs.File.{next, readingOf}
-use Rattle.file.specs.Records.{wholeOf, readPast}
+use Rattle.file.specs.Taking.{wholeOf, readPast}
 use Rattle.file.proofs.RecordSteps.{readAfter}
 use Rattle.file.proofs.RecordParts.{reading-refused, reading-ends, reading-advances}
 use borrow.Author.Needs.{needs}
@@ -15,12 +15,12 @@ use Rattle.file.proofs.read_records.Statement.{statement}
 use Rattle.file.proofs.read_records.Tie as tie
 
 abbrev Inv-loop : tie.InvT-loop
-Inv-loop file header accepting₀ transitions₀ cursor₀ accepting transitions cursor =
-    (cursor .at ≤ length file)
-    × (readPast file header ≡ readAfter file (next (cursor .at) (wholeOf header accepting transitions)))
+Inv-loop file header accepting₀ transitions₀ at₀ accepting transitions at =
+    (at ≤ length file)
+    × (readPast file header ≡ readAfter file (next at (wholeOf header accepting transitions)))
 
 abbrev μ-loop : tie.MeasureT-loop
-μ-loop file header accepting₀ transitions₀ cursor₀ accepting transitions cursor = length file - cursor .at
+μ-loop file header accepting₀ transitions₀ at₀ accepting transitions at = length file - at
 
 loop-holds : tie.Need-loop-holds Inv-loop μ-loop
 unfolding bare readPast readAfter

@@ -1,72 +1,92 @@
--- `next_target` meets its contract: the next target is in the byte that holds `from`, with its lower bits cleared, or in a later one.
--- Assumes nothing.
-use mathlib.Core.Path.{_≡_, sym, ap, _∙_}
+-- `next_target` meets its contract: whatever the bytes passed, the next target from r on is the answer. Assumes nothing.
+use mathlib.Core.Path.{_≡_, refl, sym, ap, _∙_}
+use Prim.Native.Nat.{_≤_, _-_}
 use native.Mathlib.Omega.{arith}
 use denote.Ref.{now}
 use borrow.Author.Needs.{needs}
 use Rattle.automaton.specs.Sets.{leastMember}
-use Rattle.automaton.proofs.Members.{next-end, target-in-first, target-past-first}
+use Rattle.automaton.specs.Members.{transitionIn, nextFrom}
+use Rattle.automaton.proofs.Members.{next-end, target-in-byte, target-past-byte}
 use Rattle.automaton.proofs.targets.next_target.Statement.{statement}
 use Rattle.automaton.proofs.targets.next_target.Tie as tie
 
-returns : tie.Need-returns
-returns c = sym (next-end _ 32 (c .before .args .from) (omega arith))
+abbrev Inv-loop : tie.InvT-loop
+Inv-loop table transitions q a from r₀ r =
+    (r ≤ 32) × (nextFrom (transitionIn transitions q a) (32 - from) from ≡ nextFrom (transitionIn transitions q a) (32 - r) r)
 
-mul-cleared-below : tie.Need-mul-cleared-below
+abbrev μ-loop : tie.MeasureT-loop
+μ-loop table transitions q a from r₀ r = 32 - r
+
+loop-holds : tie.Need-loop-holds Inv-loop μ-loop
+loop-holds c = (omega arith, refl)
+
+mul-cleared-below : tie.Need-mul-cleared-below Inv-loop μ-loop
 mul-cleared-below c = search needs
 
-add-cleared-below : tie.Need-add-cleared-below
+add-cleared-below : tie.Need-add-cleared-below Inv-loop μ-loop
 add-cleared-below c = search needs
 
-mul-cleared-below-2 : tie.Need-mul-cleared-below-2
+mul-cleared-below-2 : tie.Need-mul-cleared-below-2 Inv-loop μ-loop
 mul-cleared-below-2 c = search needs
 
-add-cleared-below-2 : tie.Need-add-cleared-below-2
+add-cleared-below-2 : tie.Need-add-cleared-below-2 Inv-loop μ-loop
 add-cleared-below-2 c = search needs
 
-element-copy-out-cleared-below : tie.Need-element-copy-out-cleared-below
+element-copy-out-cleared-below : tie.Need-element-copy-out-cleared-below Inv-loop μ-loop
 element-copy-out-cleared-below c = search needs
 
-cleared-below-requires : tie.Need-cleared-below-requires
+cleared-below-requires : tie.Need-cleared-below-requires Inv-loop μ-loop
 cleared-below-requires c κs = search needs
 
-least-member-requires : tie.Need-least-member-requires
+least-member-requires : tie.Need-least-member-requires Inv-loop μ-loop
 least-member-requires c κs = search needs
 
-mul-result : tie.Need-mul-result
+mul-result : tie.Need-mul-result Inv-loop μ-loop
 mul-result c = search needs
 
-add-result : tie.Need-add-result
+add-result : tie.Need-add-result Inv-loop μ-loop
 add-result c = search needs
 
-returns-2 : tie.Need-returns-2
-returns-2 c =
-    let s = c .before .before .before .before .before .args in
+returns : tie.Need-returns Inv-loop μ-loop
+returns c =
+    let s = c .before .before .before .before .before in
+    let p = s .before .args in
     sym
-    (target-in-first (now (s .transitions)) (s .q) (s .a) (s .from) _
+    (s .loop .inv .1
+    ∙ target-in-byte (now (p .transitions)) (p .q) (p .a) (s .loop .r) _
     (c .before .least-member .ensures ∙ ap leastMember (c .before .before .cleared-below .ensures))
-    (omega arith) (c .if2 .taken))
+    (omega arith) (c .if1 .taken))
 
-add-target-in-bytes : tie.Need-add-target-in-bytes
-add-target-in-bytes c = search needs
+add-r : tie.Need-add-r Inv-loop μ-loop
+add-r c = search needs
 
-target-in-bytes-requires : tie.Need-target-in-bytes-requires
-target-in-bytes-requires c κs = search needs
+mul-r : tie.Need-mul-r Inv-loop μ-loop
+mul-r c = search needs
 
-returns-3 : tie.Need-returns-3
-returns-3 c =
-    let s = c .before .before .before .before .before .before .args in
-    c .target-in-bytes .ensures
-    ∙ sym
-    (target-past-first (now (s .transitions)) (s .q) (s .a) (s .from) _
-    (c .before .before .least-member .ensures ∙ ap leastMember (c .before .before .before .cleared-below .ensures))
-    (omega arith) (c .before .if2 .left))
+loop-less : tie.Need-loop-less Inv-loop μ-loop
+loop-less c = search needs
+
+loop-again : tie.Need-loop-again Inv-loop μ-loop
+loop-again c =
+    let s = c .before .before .before .before .before in
+    let p = s .before .args in (
+      omega arith,
+      s .loop .inv .1
+          ∙ target-past-byte (now (p .transitions)) (p .q) (p .a) (s .loop .r) _
+          (c .before .least-member .ensures ∙ ap leastMember (c .before .before .cleared-below .ensures))
+          (omega arith) (c .if1 .left),
+    )
+
+returns-2 : tie.Need-returns-2 Inv-loop μ-loop
+returns-2 c = sym (c .before .loop .inv .1 ∙ next-end _ 32 _ (omega arith))
 
 pub next-target-spec : {M : Type 1} → statement M
 next-target-spec =
     tie.close
     (tie.spec
-    returns
+    Inv-loop
+    μ-loop
+    loop-holds
     mul-cleared-below
     add-cleared-below
     mul-cleared-below-2
@@ -76,7 +96,9 @@ next-target-spec =
     least-member-requires
     mul-result
     add-result
-    returns-2
-    add-target-in-bytes
-    target-in-bytes-requires
-    returns-3)
+    returns
+    add-r
+    mul-r
+    loop-less
+    loop-again
+    returns-2)

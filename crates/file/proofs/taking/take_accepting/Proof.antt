@@ -6,7 +6,7 @@ use native.Mathlib.Omega.{arith}
 use denote.Ref.{now}
 use Rattle.file.specs.declared.Progress.the-variants.{Refused, Goes}
 use Rattle.file.specs.File.{next}
-use Rattle.file.specs.Records.{wholeOf}
+use Rattle.file.specs.Taking.{wholeOf}
 use Rattle.file.proofs.RecordParts.{taken, takes-unknown-state, takes-repeated-state, takes-state}
 use borrow.Author.Needs.{needs}
 use Rattle.file.proofs.taking.take_accepting.Statement.{statement}
@@ -37,7 +37,7 @@ returns-3 c =
     λ t. taken (Goes (s .next))
     (takes-state (s .header) (now (s .accepting)) t (s .next) (s .q) (omega arith)
     (sym (c .before .before .before .accepts-in .ensures) ∙ c .before .before .if2 .left)
-    ∙ ap (λ (l : List ℕ). next (s .next .at) (wholeOf (s .header) l t)) (sym (c .add-member .ensures)))
+    ∙ ap (λ (l : List ℕ). next (s .next) (wholeOf (s .header) l t)) (sym (c .add-member .ensures)))
     refl
 
 pub take-accepting-spec : {M : Type 1} → statement M

@@ -12,7 +12,7 @@ use Rattle.automaton.proofs.InRange.{and-three}
 use Rattle.automaton.proofs.Tests.{is-true}
 use Rattle.file.specs.declared.Progress.the-variants.{Refused, Goes}
 use Rattle.file.specs.File.{next}
-use Rattle.file.specs.Records.{wholeOf}
+use Rattle.file.specs.Taking.{wholeOf}
 use Rattle.file.proofs.RecordParts.{taken, takes-unknown, takes-repeated, takes-transition}
 use Rattle.file.proofs.taking.take_transition.Statement.{statement}
 use Rattle.file.proofs.taking.take_transition.Tie as tie
@@ -57,7 +57,7 @@ returns-3 c =
     λ s. taken (Goes (v .next))
     (takes-transition (v .header) s (now (v .transitions)) (v .next) (v .q) (v .a) (v .r) (not-false _ (e .if1 .left))
     (sym (c .before .before .before .transition-in .ensures) ∙ c .before .before .if2 .left)
-    ∙ ap (λ (l : List ℕ). next (v .next .at) (wholeOf (v .header) s l)) (sym (c .add-transition .ensures)))
+    ∙ ap (λ (l : List ℕ). next (v .next) (wholeOf (v .header) s l)) (sym (c .add-transition .ensures)))
     refl
 
 pub take-transition-spec : {M : Type 1} → statement M

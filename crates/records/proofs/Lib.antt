@@ -1,0 +1,3 @@
+-- Laws of the records past the header.
+mod RecordCases
+mod Readers
