@@ -4,29 +4,21 @@ use mathlib.Core.Path.{_≡_, refl, sym, _∙_, ap}
 use mathlib.Core.Bool.{Bool, true, false, cond}
 use mathlib.Core.Logic.{⊎-elim}
 use mathlib.Core.List.{List}
-use Prim.Native.Nat.{ℕ, zero, suc, _+_, _*_, _-_, _%_, _≤_, _<_}
+use Prim.Native.Nat.{ℕ, zero, suc, _+_, _*_, _-_, _≤_, _<_}
 use native.Mathlib.Nat.{eq-or-lt-of-le}
 use native.Mathlib.Numerals.{add-one}
 use native.Mathlib.Omega.{arith}
 use borrow.Author.Tests.{eqb-true, eqb-false}
 use lib.Dec.{T, eqb}
-use lib.ListN.{length, getD, drop, set, replicate, length-set, length-replicate, getD-replicate, drop-of-length-le}
-use lib.Seq.{drop-cons, getD-set-same, getD-set-other}
+use lib.ListN.{length, getD, set, replicate, length-set, length-replicate, getD-replicate}
+use lib.Seq.{getD-set-same, getD-set-other}
 use Rattle.automaton.proofs.Tests.{is-true, not-T-false}
 use Rattle.slots.specs.declared.Vertex.{Vertex}
 use Rattle.slots.specs.declared.Found.the-variants.{At, Nothing}
 use Rattle.slots.specs.Slots.{slotSize, maxSlots, sameVertex}
-use Rattle.slots.specs.Bytes.{stored, vertexAt, lastBelow, hashes, hashFrom, hashOf, topBelow, Indexed}
+use Rattle.slots.specs.Bytes.{stored, vertexAt, lastBelow, hashes, hashOf, topBelow, Indexed}
 use Rattle.slots.proofs.Vertices.{same-vertex-eq}
 use Rattle.slots.proofs.SlotLayout.{stored-vertex, stored-below}
-
--- the hash, a counter at a time
-pub hash-step : (h : ℕ) (cs : List ℕ) (i : ℕ) → i < length cs → hashFrom ((h * 31 + getD cs i 0) % hashes) (drop (i + 1) cs)
-    ≡ hashFrom h (drop i cs)
-hash-step h cs i l = rw (add-one, drop-cons cs i 0 l)
-
-pub hash-end : (h : ℕ) (cs : List ℕ) (i : ℕ) → length cs ≤ i → hashFrom h (drop i cs) ≡ h
-hash-end h cs i l = rw (drop-of-length-le cs l)
 
 module _ (work : List ℕ) where
   pub top-le : (h n : ℕ) → topBelow work h n ≤ n

@@ -3,7 +3,7 @@
 --   vertexAt work s       the vertex in slot s: "byte 0 left state, 1-32 counters"
 --   letterAt, parentAt    of slot s: "33 letter, 34-35 parent's slot number (low byte first)"
 --   Found, lastBelow      the last of the first n slots that holds the vertex v, or nothing
---   hashOf v              the hash of a vertex, a number below 1024
+--   hashOf v              the hash of a vertex, a number below 4096: its left state and the hash of its counters
 --   topBelow work h n     1 + the last of the first n slots whose vertex has the hash h, or 0
 --   Indexed               heads[h] is 1 + the last of the n slots with hash h, nexts[s] the same of the slots below s with the hash of s
 --   Falls work s          the slots 1 to s have parents with lower numbers
@@ -12,7 +12,7 @@
 use mathlib.Core.Path.{_≡_}
 use mathlib.Core.Bool.{cond}
 use mathlib.Core.List.{List, [], _∷_, _++_}
-use Prim.Native.Nat.{ℕ, zero, suc, _+_, _*_, _%_, _≤_, _<_}
+use Prim.Native.Nat.{ℕ, zero, suc, _+_, _*_, _/_, _%_, _^_, _≤_, _<_}
 use lib.Dec.{eqb}
 use lib.ListN.{length, getD, take, drop}
 use Rattle.automaton.specs.Automata.{maxStates}
@@ -39,14 +39,23 @@ lastBelow work v (suc n) = cond (sameVertex v (vertexAt work n)) (At n) (lastBel
 
 -- the number of hashes
 abbrev pub hashes : ℕ
-hashes = 1024
+hashes = 4096
 
-abbrev pub hashFrom : ℕ → List ℕ → ℕ
-hashFrom h [] = h
-hashFrom h (c ∷ cs) = hashFrom ((h * 31 + c) % hashes) cs
+-- four counters, from number i on, as one number
+unfoldable pub fourFrom : List ℕ → ℕ → ℕ
+fourFrom cs i = (getD cs (i + 3) 0 * 256 + getD cs (i + 2) 0) * 65536 + (getD cs (i + 1) 0 * 256 + getD cs i 0)
+
+-- k fours, from counter i on, mixed into h
+unfoldable pub mixed : List ℕ → ℕ → ℕ → ℕ → ℕ
+mixed cs h zero i = h
+mixed cs h (suc k) i = mixed cs ((h * 31 + fourFrom cs i) % 2 ^ 36) k (i + 4)
+
+-- 36 bits of the counters, multiplied: the 12 bits in the middle of the product depend on all of them
+unfoldable pub countersHash : List ℕ → ℕ
+countersHash cs = mixed cs 0 8 0 * 165967259 / 2 ^ 26 % hashes
 
 unfoldable pub hashOf : Vertex → ℕ
-hashOf v = hashFrom (v .left) (v .counters)
+hashOf v = (v .left * 127 + countersHash (v .counters)) % hashes
 
 unfoldable pub topBelow : List ℕ → ℕ → ℕ → ℕ
 topBelow work h zero = 0

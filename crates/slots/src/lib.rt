@@ -1,10 +1,10 @@
 // Vertices of the lag-checking graph, and the slots of the work buffer that hold them. Only this crate knows a slot's layout.
 ghost use mathlib.Core.Path.{_≡_};
 ghost use mathlib.Core.List.{_++_};
-ghost use Prim.Native.Nat.{_+_, _*_, _<_, _≤_};
+ghost use Prim.Native.Nat.{_+_, _*_, _%_, _^_, _<_, _≤_};
 ghost use lib.ListN.{length, getD, set, drop};
 ghost use Rattle.slots.specs.Slots.{slotCount, slotSize, maxSlots, sameVertex, allZero, slotBytes};
-ghost use Rattle.slots.specs.Bytes.{stored, vertexAt, letterAt, parentAt, lastBelow, hashes, hashOf, Indexed, Falls, wordAt};
+ghost use Rattle.slots.specs.Bytes.{stored, vertexAt, letterAt, parentAt, lastBelow, hashes, fourFrom, countersHash, hashOf, Indexed, Falls, wordAt};
 
 // The bytes of a slot.
 pub const SLOT_SIZE: usize = 40;
@@ -32,18 +32,17 @@ pub fn slot_count(len: usize) -> usize
     if whole < MAX_SLOTS { whole } else { MAX_SLOTS }
 }
 
-// Whether all counters are 0, which makes a vertex final.
+// Whether all counters are 0, which makes a vertex final. Every counter is looked at: the comparison has no branch.
 pub fn is_final(counters: [u8; 32]) -> bool
     ensures { λ r. ⌜ r ≡ allZero counters ⌝ }
 {
+    let mut zero = true;
     let mut i: usize = 0;
     while i < 32 {
-        if counters[i] != 0 {
-            return false;
-        }
+        zero = zero & (counters[i] == 0);
         i += 1;
     }
-    true
+    zero
 }
 
 // Writes a slot to the front of the part that is lent.
@@ -104,36 +103,51 @@ pub fn holds(work: &[u8], s: usize, v: Vertex) -> bool
         return false;
     }
     let from = at + 1;
+    let mut same = true;
     let mut r: usize = 0;
     while r < 32 {
-        if v.counters[r] != work[from + r] {
-            return false;
-        }
+        same = same & (v.counters[r] == work[from + r]);
         r += 1;
     }
-    true
+    same
 }
 
-// The hash of a vertex.
-pub fn hash(v: Vertex) -> usize
-    ensures { λ r. ⌜ (r ≡ hashOf v) × (r < hashes) ⌝ }
+// Four counters, from number i on, as one number.
+fn four(counters: [u8; 32], i: usize) -> usize
+    requires { ⌜ i ≤ 28 ⌝ }
+    ensures { λ r. ⌜ (r ≡ fourFrom counters i) × (r < 2 ^ 32) ⌝ }
 {
-    let mut h = v.left as usize;
+    let low = automaton::wide(counters[i + 1]) * 256 + automaton::wide(counters[i]);
+    let high = automaton::wide(counters[i + 3]) * 256 + automaton::wide(counters[i + 2]);
+    high * 65536 + low
+}
+
+// The hash of counters.
+pub fn counters_hash(counters: [u8; 32]) -> usize
+    ensures { λ r. ⌜ r ≡ countersHash counters ⌝ }
+{
+    let mut h: usize = 0;
     let mut i: usize = 0;
     while i < 32 {
-        let x = v.counters[i] as usize;
-        h = (h * 31 + x) % 1024;
-        i += 1;
+        h = (h * 31 + four(counters, i)) % 68719476736;
+        i += 4;
     }
-    h
+    h * 165967259 / 67108864 % 4096
 }
 
-// The last of the first n slots that holds the vertex: it lies on the chain of the vertex's hash.
-pub fn find(work: &[u8], heads: &[u16], nexts: &[u16], n: usize, v: Vertex) -> Found
-    requires { ⌜ (n ≤ slotCount (length (now work))) × Indexed (now work) (now heads) (now nexts) n ⌝ }
+// The hash of a vertex, whose counters have the hash `part`. A call of it also tells its caller that there are 32 counters.
+pub fn vertex_hash(v: Vertex, part: usize) -> usize
+    requires { ⌜ part ≡ countersHash (v .counters) ⌝ }
+    ensures { λ r. ⌜ (r ≡ hashOf v) × (r < hashes) × (length (v .counters) ≡ 32) ⌝ }
+{
+    (automaton::wide(v.left) * 127 + part) % 4096
+}
+
+// The last of the first n slots that holds the vertex, whose hash is h: it lies on the chain of h.
+pub fn find(work: &[u8], heads: &[u16], nexts: &[u16], n: usize, v: Vertex, h: usize) -> Found
+    requires { ⌜ (n ≤ slotCount (length (now work))) × (h ≡ hashOf v) × (h < hashes) × Indexed (now work) (now heads) (now nexts) n ⌝ }
     ensures { λ r. ⌜ r ≡ lastBelow (now (work .entry)) v n ⌝ }
 {
-    let h = hash(v);
     let mut c = heads[h] as usize;
     while c > 0 {
         let s = c - 1;
@@ -155,7 +169,7 @@ fn link(heads: &mut [u16], nexts: &mut [u16], n: usize, h: usize)
     heads[h] = (n + 1) as u16;
 }
 
-// Writes the next free slot, n, and puts it on the chain of its hash.
+// Writes the next free slot, n, and puts it on the chain of its vertex's hash, h.
 pub fn append(
     work: &mut [u8],
     heads: &mut [u16],
@@ -164,13 +178,14 @@ pub fn append(
     v: Vertex,
     letter: u8,
     parent: usize,
+    h: usize,
 )
-    requires { ⌜ (n < slotCount (length (now work))) × (parent < 65536) × Indexed (now work) (now heads) (now nexts) n ⌝ }
+    requires { ⌜ (n < slotCount (length (now work))) × (parent < 65536) × (h ≡ hashOf v) × (h < hashes) × Indexed (now work) (now heads) (now nexts) n ⌝ }
     ensures bytes { λ _. ⌜ now (work .exit) ≡ stored (now (work .entry)) n v letter parent ⌝ }
     ensures index { λ _. ⌜ Indexed (now (work .exit)) (now (heads .exit)) (now (nexts .exit)) (n + 1) ⌝ }
 {
     store(work, n, v, letter, parent);
-    link(heads, nexts, n, hash(v));
+    link(heads, nexts, n, h);
 }
 
 // The letter in slot s.

@@ -15,8 +15,8 @@ use Rattle.slots.proofs.Words.{letter-put}
 use Rattle.walk.specs.declared.Walked.the-variants.{Differs}
 use Rattle.walk.specs.Discovery.{Graph, Node, ended, root, at, back, wordTo}
 use Rattle.walk.specs.LagGraph.{lagGraph}
-use Rattle.walk.specs.Walks.{wordOf, Fits}
-use Rattle.walk.specs.Shown.{Wide, Shown, FoundFinal, wordAfter, WordRead}
+use Rattle.walk.specs.Walks.{wordOf, Fits, wordAfter}
+use Rattle.walk.specs.Shown.{Wide, Shown, FoundFinal, WordRead}
 use Rattle.walk.proofs.Visits.{at-left, at-last, length-snoc}
 use Rattle.walk.proofs.Parents.{Linked}
 use Rattle.walk.proofs.Words.{word-step}

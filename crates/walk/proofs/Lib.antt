@@ -12,6 +12,8 @@ pub mod Paths
 pub mod VertexRanges
 pub mod WalkTheorem
 pub mod SteppedBytes
+pub mod MaskRows
+pub mod LeftTargets
 pub mod ShownSlots
 pub mod Onward
 pub mod TurnLoops

@@ -17,15 +17,16 @@ use Rattle.automaton.specs.Members.{transitionIn, nextFrom}
 use Rattle.automaton.specs.Ranges.{those, table}
 use Rattle.automaton.specs.Sets.{member}
 use Rattle.automaton.proofs.Members.{those-next, those-here, those-end, those-same}
-use Rattle.automaton.proofs.Tests.{is-true}
+use Rattle.automaton.proofs.Tests.{is-true, not-T-false}
 use Rattle.slots.specs.declared.Vertex.{Vertex}
 use Rattle.slots.specs.Slots.{slotCount}
+use Rattle.slots.specs.Bytes.{countersHash}
 use Rattle.walk.specs.declared.Step.{Step}
 use Rattle.walk.specs.declared.Walked.{Walked}
 use Rattle.walk.specs.declared.Walked.the-variants.{Contained, Differs, Full}
 use Rattle.walk.specs.Discovery.{Node, Walk, going, ended, full, below, visit, visits}
 use Rattle.walk.specs.LagGraph.{successor, lagGraph}
-use Rattle.walk.specs.Shown.{Shown, Becomes, Ready, Side, StepOf, largestInto, counterFrom}
+use Rattle.walk.specs.Shown.{Shown, Becomes, Ready, Side, RightSide, StepOf, largestInto, counterFrom, Masks, NoneFrom, Needed}
 use Rattle.walk.proofs.Walked.{the-type}
 use Rattle.walk.proofs.Visits.{visits-ended, visits-full, visits-append}
 use Rattle.walk.proofs.SteppedBytes.{transition-in-range, accepts-in-range, stepped-is}
@@ -162,14 +163,18 @@ module _ (A B : Automaton) (b : ℕ) (v : Vertex) (accepting transitions : List 
   edges-end t h = ap (map (successor A B b v (step .letter))) (those-end isTarget (A .states) t (omega (arith, few)))
 
   -- the vertex that the code makes of a target
-  pub target-successor : (u : Vertex) (t : ℕ) → t < maxStates → u .left ≡ t → u .counters
+  pub target-successor : (u : Vertex) (t : ℕ) → t < maxStates → isTarget t ≡ true → u .left ≡ t → u .counters
       ≡ cond (member accepting t) (step .lowered) (step .others)
       → _≡_ {A = ℕ × Vertex} (step .letter, u) (successor A B b v (step .letter) t)
   unfolding successor
-  target-successor u t h e c = go (accepts A t) refl
+  target-successor u t h target e c = go (accepts A t) refl
     where
       test : member accepting t ≡ accepts A t
       test = ap (λ (l : List ℕ). member l t) (L .accepting-is) ∙ sym (accepts-in-range A (L .in-range) t h)
+
+      into : transitionIn (A .transitions) (v .left) (step .letter) t ≡ true
+      into =
+          ap₂ (λ (l : List ℕ) (q : ℕ). transitionIn l q (step .letter) t) (sym (L .transitions-are)) (sym (K .left-is)) ∙ target
 
       pair : (cs : List ℕ) → u .counters ≡ cs → _≡_ {A = ℕ × Vertex} (step .letter, u) (step .letter, record { left = t; counters = cs })
       pair cs d = ap₂ (λ (x : ℕ) (l : List ℕ). (step .letter, record { left = x; counters = l })) e d
@@ -178,25 +183,40 @@ module _ (A B : Automaton) (b : ℕ) (v : Vertex) (accepting transitions : List 
       chosen y q = c ∙ ap (λ (z : Bool). cond z (step .lowered) (step .others)) (test ∙ q)
 
       go : (y : Bool) → accepts A t ≡ y → _≡_ {A = ℕ × Vertex} (step .letter, u) (successor A B b v (step .letter) t)
-      go true q = pair _ (chosen true q ∙ K .lowered-are t q)
-      go false q = pair _ (chosen false q ∙ K .others-are t q)
+      go true q = pair _ (chosen true q ∙ K .lowered-are t (h, into, q))
+      go false q = pair _ (chosen false q ∙ K .others-are t (h, into, q))
+
+-- the hash of the counters at a left target
+pub target-part : (y : Bool) (ls os cs : List ℕ) (h k x : ℕ) → h ≡ countersHash ls → k ≡ countersHash os → x ≡ cond y h k
+    → cs ≡ cond y ls os → x ≡ countersHash cs
+target-part true ls os cs h k x p q e d = e ∙ p ∙ ap countersHash (sym d)
+target-part false ls os cs h k x p q e d = e ∙ q ∙ ap countersHash (sym d)
 
 -- the counters that the code computes for a letter
-pub step-is : (A B : Automaton) (b : ℕ) (accepting transitions : List ℕ) (top : ℕ) (v : Vertex) (a : ℕ) (largest lowered others : List ℕ)
-    → top ≡ b + 1 → Side accepting transitions B → a < maxLetters
-    → largest ≡ table (largestInto transitions a (v .counters)) maxStates 0
-    → lowered ≡ table (λ r. counterFrom top (member accepting r) true (getD largest r 0)) maxStates 0
-    → others ≡ table (λ r. counterFrom top (member accepting r) false (getD largest r 0)) maxStates 0
-    → StepOf (record { left = v .left; letter = a; lowered = lowered; others = others }) A B b v
-step-is A B b accepting transitions top v a largest lowered others e R h el ea eo =
+pub step-is : (A B : Automaton) (b : ℕ) (accepting masks : List ℕ) (n k top : ℕ) (v : Vertex) (a : ℕ) (largest lowered others : List ℕ)
+    → top ≡ b + 1 → a < k → a < maxLetters → RightSide accepting masks n k B
+    → ((t : List ℕ) (j : ℕ) → a < j → Masks masks t n j → NoneFrom t n a → largest ≡ table (largestInto t a (v .counters)) maxStates 0)
+    → (lower other : Bool) → Needed lower true A (v .left) a → Needed other false A (v .left) a
+    → (lower ≡ true → lowered ≡ table (λ r. counterFrom top (member accepting r) true (getD largest r 0)) maxStates 0)
+    → (other ≡ true → others ≡ table (λ r. counterFrom top (member accepting r) false (getD largest r 0)) maxStates 0)
+    → (x y : ℕ)
+    → StepOf (record { left = v .left; letter = a; lowered = lowered; lowkey = x; others = others; otherkey = y }) A B b v
+step-is A B b accepting masks n k top v a largest lowered others e below h R el lower other nl no′ ea eo x y =
     record {
       left-is = refl;
-      lowered-are = λ t y. stepped-is A B b (R .in-range) a t (v .counters) h true largest lowered y into (ea ∙ counters true);
-      others-are = λ t y. stepped-is A B b (R .in-range) a t (v .counters) h false largest others y into (eo ∙ counters false);
+      lowered-are = λ t s.
+          stepped-is A B b (R .in-range) a t (v .counters) h true largest lowered (s .2) into (ea (nl t s) ∙ counters true);
+      others-are = λ t s.
+          stepped-is A B b (R .in-range) a t (v .counters) h false largest others (s .2) into (eo (no′ t s) ∙ counters false);
     }
   where
+    none : NoneFrom (B .transitions) n a
+    none p r q l i =
+        not-T-false (transitionIn (B .transitions) p a r)
+        (λ t. omega (arith, R .in-range .transitions-in p a r l h i t .0, R .states-are))
+
     into : largest ≡ table (largestInto (B .transitions) a (v .counters)) maxStates 0
-    into = el ∙ ap (λ (l : List ℕ). table (largestInto l a (v .counters)) maxStates 0) (R .transitions-are)
+    into = el (B .transitions) k below (R .masks-are) none
 
     counters : (l : Bool) → table (λ r. counterFrom top (member accepting r) l (getD largest r 0)) maxStates 0
         ≡ table (λ r. counterFrom (b + 1) (member (B .accepting) r) l (getD largest r 0)) maxStates 0
@@ -253,7 +273,7 @@ module _ (accepting transitions : List ℕ) (step : Step) (small : step .left < 
             → Becomes work m work′ r (λ S w. visits (lagGraph A B b) (below S) p w (successor A B b v (step .letter) t ∷ []))
         made A B b v L K =
             subst (λ (d : ℕ × Vertex). Becomes work m work′ r (λ S w. visit (lagGraph A B b) (below S) p w d))
-            (target-successor A B b v accepting transitions step L K small letter u t h ul uc) (seen A B b)
+            (target-successor A B b v accepting transitions step L K small letter u t h e ul uc) (seen A B b)
 
         pub targets-stop : Stops r → TargetsDone accepting transitions step p before n work′ r
         targets-stop k A B b v L K start ns S =

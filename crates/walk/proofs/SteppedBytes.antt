@@ -1,29 +1,29 @@
 -- The counters as the code steps them, from the bytes of the transitions, are those of the definition: the largest counter of the
 -- predecessors decides both whether an accepting state is raised and what a state that does not accept gets. Assumes nothing.
-use mathlib.Core.Path.{_≡_, refl, sym, _∙_, ap, ap₂}
+use mathlib.Core.Path.{_≡_, refl, sym, _∙_, ap, ap₂, subst}
 use mathlib.Core.Bool.{Bool, true, false, cond, _&&_, _||_, not}
-use mathlib.Core.Logic.{⊎-elim}
+use mathlib.Core.Logic.{_⊎_, inl, inr, ⊎-elim}
 use mathlib.Core.List.{List}
-use Prim.Native.Nat.{ℕ, zero, suc, _+_, _-_, _≤_, _<_, max}
+use Prim.Native.Nat.{ℕ, zero, suc, _+_, _-_, _≤_, _<_, max, min}
 use native.Mathlib.Nat.{add-zero, zero-add, max-zero, zero-max, eq-or-lt-of-le}
 use native.Mathlib.Numerals.{add-one}
 use native.Mathlib.Omega.{arith}
-use borrow.Author.Tests.{lt-ltb, le-ltb, eqb-true, eqb-false}
+use borrow.Author.Tests.{lt-ltb, le-ltb, ltb-false, eqb-true, eqb-false}
 use lib.Dec.{eqb, ltb, lt→ltb}
 use lib.ListN.{length, getD, set, replicate, length-set, length-replicate, getD-replicate}
 use lib.Seq.{ext-getD, getD-set-same, getD-set-other}
 use Rattle.automaton.specs.declared.Automaton.{Automaton}
 use Rattle.automaton.specs.Automata.{maxStates, maxLetters, accepts, transition, InRange}
-use Rattle.automaton.specs.Members.{transitionIn, nextFrom}
+use Rattle.automaton.specs.Members.{transitionIn}
 use Rattle.automaton.specs.Ranges.{some, table, largest}
 use Rattle.automaton.specs.Sets.{member}
-use Rattle.automaton.proofs.Members.{next-from, next-to, next-holds, next-before}
-use Rattle.automaton.proofs.Ranges.{table-at, length-table}
+use Rattle.automaton.proofs.Ranges.{table-at, length-table, largest-ub}
 use Rattle.automaton.proofs.Tests.{same-test, and-both, both-and}
 use Rattle.automaton.proofs.Transitions.{transition-parts, parts-transition}
 use Rattle.slots.specs.declared.Vertex.{Vertex}
 use Rattle.walk.specs.LagGraph.{initialCounter, initialVertex, counter, stepped}
-use Rattle.walk.specs.Shown.{largestInto, raisedAt, counterFrom}
+use Rattle.walk.specs.declared.present.Present.{Present}
+use Rattle.walk.specs.Shown.{largestInto, counterFrom, NoneFrom, PresentOf}
 use Rattle.walk.proofs.Visits.{lt-or-le}
 
 -- Bits of an automaton in range.
@@ -56,70 +56,6 @@ table-more f l r y h done e k i =
     ⊎-elim (λ q. rw q (getD-set-same l r y 0 h ∙ e)) (λ q. getD-set-other l r k y 0 (λ d. absurd (omega arith)) ∙ done k q)
     (eq-or-lt-of-le {n = k} {m = r} (omega arith))
 
--- Raising the targets of a state to its counter x, the next target first.
-
--- the targets below r are raised, and r is the next
-pub record Raising (f : ℕ → Bool) (x : ℕ) (before after : List ℕ) (r : ℕ) : Type 0 where
-  pub long : length after ≡ maxStates
-  pub inside : r ≤ maxStates
-  pub target : r < maxStates → f r ≡ true
-  pub raised : (k : ℕ) → k < r → getD after k 0 ≡ raisedAt f x before k
-  pub others : (k : ℕ) → r ≤ k → getD after k 0 ≡ getD before k 0
-
-module _ (f : ℕ → Bool) (x : ℕ) (before : List ℕ) where
-  not-raised : (k : ℕ) → f k ≡ false → getD before k 0 ≡ raisedAt f x before k
-  not-raised k e = rw e
-
-  pub raising-first : (r : ℕ) → length before ≡ maxStates → r ≡ nextFrom f maxStates 0 → Raising f x before before r
-  raising-first r l e =
-      let t = next-to f maxStates 0 in
-      record {
-        long = l;
-        inside = omega arith;
-        target = λ h. ap f e ∙ next-holds f maxStates 0 (omega arith);
-        raised = λ k h. not-raised k (next-before f maxStates 0 k (omega arith) (omega arith));
-        others = λ k h. refl;
-      }
-
-  module _ (after : List ℕ) (r : ℕ) (R : Raising f x before after r) (more : r < maxStates) (y s : ℕ)
-      (higher : y ≡ max (getD after r 0) x) (next : s ≡ nextFrom f (maxStates - (r + 1)) (r + 1)) where
-    pub raising-rises : r < s
-    raising-rises = omega (arith, next-from f (maxStates - (r + 1)) (r + 1))
-
-    here : getD (set after r y) r 0 ≡ raisedAt f x before r
-    here =
-        getD-set-same after r y 0 (omega (arith, R .long)) ∙ higher ∙ ap (λ (z : ℕ). max z x) (R .others r (omega arith))
-        ∙ sym (ap (λ (b : Bool). cond b (max (getD before r 0) x) (getD before r 0)) (R .target more))
-
-    below : (k : ℕ) → k < s → getD (set after r y) k 0 ≡ raisedAt f x before k
-    below k h = ⊎-elim before-r from-r (lt-or-le k r)
-      where
-        before-r : k < r → getD (set after r y) k 0 ≡ raisedAt f x before k
-        before-r l = getD-set-other after r k y 0 (λ e. absurd (omega arith)) ∙ R .raised k l
-
-        past-r : r < k → getD (set after r y) k 0 ≡ raisedAt f x before k
-        past-r l =
-            getD-set-other after r k y 0 (λ e. absurd (omega arith)) ∙ R .others k (omega arith)
-            ∙ not-raised k (next-before f (maxStates - (r + 1)) (r + 1) k (omega arith) (omega arith))
-
-        from-r : r ≤ k → getD (set after r y) k 0 ≡ raisedAt f x before k
-        from-r l = ⊎-elim (λ e. rw (← e) here) past-r (eq-or-lt-of-le l)
-
-    pub raising-next : Raising f x before (set after r y) s
-    raising-next =
-        let t = next-to f (maxStates - (r + 1)) (r + 1) in
-        record {
-          long = length-set after r y ∙ R .long;
-          inside = omega arith;
-          target = λ h. ap f next ∙ next-holds f (maxStates - (r + 1)) (r + 1) (omega arith);
-          raised = below;
-          others = λ k h. getD-set-other after r k y 0 (λ e. absurd (omega (arith, raising-rises)))
-              ∙ R .others k (omega (arith, raising-rises));
-        }
-
-  pub raising-last : (after : List ℕ) (r : ℕ) → Raising f x before after r → maxStates ≤ r → after ≡ table (raisedAt f x before) maxStates 0
-  raising-last after r R h = table-is (raisedAt f x before) after maxStates (R .long) (λ k l. R .raised k (omega arith))
-
 -- The largest of one number more.
 
 pub largest-more : (f : ℕ → ℕ) (n i : ℕ) → largest f (suc n) i ≡ max (largest f n i) (f (i + n))
@@ -129,38 +65,136 @@ largest-more f (suc n) i =
     let e : i + suc n ≡ suc i + n = omega arith in
     rw e (ap (max (f i)) (largest-more f n (suc i)) ∙ omega arith)
 
--- the largest counters of the predecessors below p
-abbrev pub largestBelow : List ℕ → ℕ → List ℕ → ℕ → ℕ → ℕ
-largestBelow t a f p r = largest (λ q. cond (transitionIn t q a r) (getD f q 0) 0) p 0
+-- the largest counters of the predecessors among the first i states of a list
+abbrev pub largestOf : List ℕ → ℕ → List ℕ → List ℕ → ℕ → ℕ → ℕ
+largestOf t a f ps i r = largest (λ j. cond (transitionIn t (getD ps j 0) a r) (getD f (getD ps j 0) 0) 0) i 0
 
-module _ (t : List ℕ) (a : ℕ) (f : List ℕ) (p : ℕ) (l : List ℕ) (so-far : (r : ℕ) → r < maxStates → getD l r 0 ≡ largestBelow t a f p r)
+-- the state at place i of the list raises its targets to its counter x, by their masks
+pub largest-raised : (t : List ℕ) (a : ℕ) (f ps : List ℕ) (i x : ℕ) (l m : List ℕ) (g : ℕ → ℕ) → x < 256 → x ≡ getD f (getD ps i 0) 0
+    → ((r : ℕ) → r < maxStates → g r ≡ cond (transitionIn t (getD ps i 0) a r) 255 0)
+    → m ≡ table (λ r. max (getD l r 0) (min x (g r))) maxStates 0
+    → ((r : ℕ) → r < maxStates → getD l r 0 ≡ largestOf t a f ps i r)
+    → (r : ℕ) → r < maxStates → getD m r 0 ≡ largestOf t a f ps (i + 1) r
+largest-raised t a f ps i x l m g small ex eg em so-far r h =
+    ap (λ (z : List ℕ). getD z r 0) em ∙ table-at (λ r. max (getD l r 0) (min x (g r))) maxStates r 0 h
+    ∙ ap₂ max (so-far r h) (ap (min x) (eg r h) ∙ chosen (transitionIn t (getD ps i 0) a r))
+    ∙ rw (add-one i, largest-more (λ j. cond (transitionIn t (getD ps j 0) a r) (getD f (getD ps j 0) 0) 0) i 0, zero-add i)
   where
-    one-more : (r x : ℕ) → x ≡ max (largestBelow t a f p r) (cond (transitionIn t p a r) (getD f p 0) 0) → x ≡ largestBelow t a f (p + 1) r
-    one-more r x e =
-        rw (add-one p, largest-more (λ q. cond (transitionIn t q a r) (getD f q 0) 0) p 0, zero-add p) e
+    chosen : (c : Bool) → min x (cond c 255 0) ≡ cond c (getD f (getD ps i 0) 0) 0
+    chosen true = omega arith
+    chosen false = omega arith
 
-    -- a state that has a counter above 0 raises its targets
-    pub largest-raised : (m : List ℕ) → m ≡ table (raisedAt (transitionIn t p a) (getD f p 0) l) maxStates 0
-        → (length m ≡ maxStates) × ((r : ℕ) → r < maxStates → getD m r 0 ≡ largestBelow t a f (p + 1) r)
-    largest-raised m e = (
-      ap length e ∙ length-table (raisedAt (transitionIn t p a) (getD f p 0) l) maxStates 0,
-      λ r h.
-          one-more r (getD m r 0)
-          (ap (λ (z : List ℕ). getD z r 0) e ∙ table-at (raisedAt (transitionIn t p a) (getD f p 0) l) maxStates r 0 h
-          ∙ rw (so-far r h) (go (transitionIn t p a r) (largestBelow t a f p r) (getD f p 0))),
-    )
-      where
-        go : (c : Bool) (y x : ℕ) → cond c (max y x) y ≡ max y (cond c x 0)
-        go true y x = refl
-        go false y x = sym (max-zero y)
+largest-le : (g : ℕ → ℕ) (n i m : ℕ) → ((k : ℕ) → k < n → g (i + k) ≤ m) → largest g n i ≤ m
+unfolding largest
+largest-le g zero i m h = omega arith
+largest-le g (suc n) i m h =
+    let first : g i ≤ m = subst (λ (k : ℕ). g k ≤ m) (add-zero i) (h 0 (omega arith)) in
+    let rest =
+    largest-le g n (suc i) m
+    (λ k l. subst (λ (j : ℕ). g j ≤ m) (let e : i + suc k ≡ suc i + k = omega arith in e) (h (suc k) (omega arith))) in
+    omega arith
 
-    -- and one whose counter is 0 raises none
-    pub largest-kept : getD f p 0 ≤ 0 → (r : ℕ) → r < maxStates → getD l r 0 ≡ largestBelow t a f (p + 1) r
-    largest-kept z r h = one-more r (getD l r 0) (rw (so-far r h) (go (transitionIn t p a r)))
+le-or-gt : (x : ℕ) → (x ≤ 0) ⊎ (0 < x)
+le-or-gt zero = inl (omega arith)
+le-or-gt (suc x) = inr (omega arith)
+
+-- states that are not listed have no counter above 0, or no transition
+pub largest-listed : (t : List ℕ) (a : ℕ) (f : List ℕ) (present : Present) (n : ℕ) → n ≤ maxStates → PresentOf present f n → NoneFrom t n a
+    → (r : ℕ) → r < maxStates → largestOf t a f (present .places) (present .count) r ≡ largestInto t a f r
+unfolding largestInto
+largest-listed t a f present n few P none r h = omega (arith, most, least)
+  where
+    into : ℕ → ℕ
+    into p = cond (transitionIn t p a r) (getD f p 0) 0
+
+    listed : ℕ → ℕ
+    listed j = into (getD (present .places) j 0)
+
+    most : largest listed (present .count) 0 ≤ largest into maxStates 0
+    most =
+        largest-le listed (present .count) 0 (largest into maxStates 0)
+        (λ k l.
+        rw (zero-add k)
+        (let b = P .below k l in
+        subst (λ (p : ℕ). into p ≤ largest into maxStates 0) (zero-add (getD (present .places) k 0))
+        (largest-ub into maxStates 0 (getD (present .places) k 0) (omega arith))))
+
+    one : (p : ℕ) → p < maxStates → into p ≤ largest listed (present .count) 0
+    one p l = ⊎-elim below (λ q. let z : into p ≡ 0 = rw (none p r q l h) in omega arith) (lt-or-le p n)
       where
-        go : (c : Bool) → largestBelow t a f p r ≡ max (largestBelow t a f p r) (cond c (getD f p 0) 0)
-        go true = omega arith
-        go false = sym (max-zero (largestBelow t a f p r))
+        found : (i : ℕ) × (i < present .count) × (getD (present .places) i 0 ≡ p) → into p ≤ largest listed (present .count) 0
+        found w =
+            let u = largest-ub listed (present .count) 0 (w .0) (w .1) in
+            subst (λ (q : ℕ). into q ≤ largest listed (present .count) 0) (w .2)
+            (subst (λ (i : ℕ). listed i ≤ largest listed (present .count) 0) (zero-add (w .0)) u)
+
+        below : p < n → into p ≤ largest listed (present .count) 0
+        below q =
+            ⊎-elim (λ z. let y : into p ≤ 0 = zero-into (transitionIn t p a r) (getD f p 0) (omega arith) in omega arith)
+            (λ g. found (P .all p q g)) (le-or-gt (getD f p 0))
+          where
+            zero-into : (c : Bool) (x : ℕ) → x ≤ 0 → cond c x 0 ≤ 0
+            zero-into true x z = z
+            zero-into false x z = omega arith
+
+    least : largest into maxStates 0 ≤ largest listed (present .count) 0
+    least = largest-le into maxStates 0 (largest listed (present .count) 0) (λ k l. rw (zero-add k) (one k l))
+
+-- The states that have a counter above 0, listed.
+
+-- the states below p are
+pub record Listing (f : List ℕ) (count : ℕ) (places : List ℕ) (p : ℕ) : Type 0 where
+  pub long : length places ≡ maxStates
+  pub few : count ≤ p
+  pub below : (i : ℕ) → i < count → getD places i 0 < p
+  pub all : (q : ℕ) → q < p → 0 < getD f q 0 → (i : ℕ) × (i < count) × (getD places i 0 ≡ q)
+
+pub listing-none : (f places : List ℕ) → length places ≡ maxStates → Listing f 0 places 0
+listing-none f places l =
+    record { long = l; few = omega arith; below = λ i h. absurd (omega arith); all = λ q h g. absurd (omega arith) }
+
+module _ (f : List ℕ) (count : ℕ) (places : List ℕ) (p : ℕ) (L : Listing f count places p) (room : p < maxStates) where
+  kept : (i : ℕ) → i < count → getD (set places count p) i 0 ≡ getD places i 0
+  kept i h = getD-set-other places count i p 0 (λ e. absurd (omega arith))
+
+  here : getD (set places count p) count 0 ≡ p
+  here = let l = L .long in let k = L .few in getD-set-same places count p 0 (omega arith)
+
+  below-both : (i : ℕ) → i < count + 1 → getD (set places count p) i 0 < p + 1
+  below-both i h =
+      ⊎-elim (λ e. let q = ap (λ (j : ℕ). getD (set places count p) j 0) e ∙ here in omega arith)
+      (λ l. let q = kept i l in let b = L .below i l in omega arith) (eq-or-lt-of-le {n = i} {m = count} (omega arith))
+
+  all-before : (q : ℕ) → q < p → 0 < getD f q 0 → (i : ℕ) × (i < count) × (getD (set places count p) i 0 ≡ q)
+  all-before q h g = let w = L .all q h g in (w .0, w .1, kept (w .0) (w .1) ∙ w .2)
+
+  pub listing-next : (m : ℕ) → m ≡ cond (ltb 0 (getD f p 0)) (count + 1) count → Listing f m (set places count p) (p + 1)
+  listing-next m e = go (ltb 0 (getD f p 0)) refl m e
+    where
+      go : (c : Bool) → ltb 0 (getD f p 0) ≡ c → (m : ℕ) → m ≡ cond c (count + 1) count → Listing f m (set places count p) (p + 1)
+      go true t m d =
+          let k = L .few in
+          record {
+            long = length-set places count p ∙ L .long;
+            few = omega arith;
+            below = λ i h. below-both i (omega arith);
+            all = λ q h g.
+                ⊎-elim (λ r. (count, omega arith, here ∙ sym r))
+                (λ l. let w = all-before q l g in (w .0, omega (arith, w .1), w .2))
+                (eq-or-lt-of-le {n = q} {m = p} (omega arith));
+          }
+      go false t m d =
+          let k = L .few in
+          let z = ltb-false 0 (getD f p 0) t in
+          record {
+            long = length-set places count p ∙ L .long;
+            few = omega arith;
+            below = λ i h. below-both i (omega arith);
+            all = λ q h g.
+                ⊎-elim (λ r. absurd (omega (arith, ap (λ (j : ℕ). getD f j 0) r)))
+                (λ l. let w = all-before q l g in (w .0, omega (arith, w .1), w .2))
+                (eq-or-lt-of-le {n = q} {m = p} (omega arith));
+          }
 
 -- Largest values of functions that agree.
 

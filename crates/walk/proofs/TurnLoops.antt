@@ -1,6 +1,7 @@
 -- The loop over the letters of a turn and the loop over the turns follow the definition: before each letter, and before each place,
 -- what is left of the fold from the list that the work buffer shows makes the walk of the whole. Assumes nothing.
 use mathlib.Core.Path.{_≡_, sym, _∙_, ap, subst}
+use mathlib.Core.Bool.{Bool, true, false}
 use mathlib.Core.List.{List, [], _++_, map, flatMap}
 use Prim.Native.Nat.{ℕ, suc, _+_, _-_, _≤_, _<_}
 use native.Mathlib.Nat.{sub-zero}
@@ -21,7 +22,7 @@ use Rattle.walk.specs.declared.Walked.the-variants.{Contained}
 use Rattle.walk.specs.Discovery.{Node, Walk, going, ended, full, below, visit, visits, successorsAt, turn, turns, begin}
 use Rattle.walk.specs.LagGraph.{initialVertex, successor, successors, lagGraph}
 use Rattle.walk.specs.Walks.{walkOf}
-use Rattle.walk.specs.Shown.{Shown, Becomes, Side, RulesOf, StepOf}
+use Rattle.walk.specs.Shown.{Shown, Becomes, Side, RightSide, RulesOf, Needed, StepOf}
 use Rattle.walk.proofs.Visits.{successors-in, turns-ended, turns-full, turns-past}
 use Rattle.walk.proofs.ShownSlots.{slot-shown, shown-none}
 use Rattle.walk.proofs.Onward.{Stops, shown-going, Onward, onward-next, onward-stop, onward-end, TargetsDone, no-targets}
@@ -50,23 +51,27 @@ module _ (A B : Automaton) (b : ℕ) (v : Vertex) where
 
 -- the answer r and the work buffer are those of the successors on letter a
 abbrev pub LetterDone : Rules → List ℕ → List ℕ → Vertex → ℕ → ℕ → List ℕ → ℕ → List ℕ → Walked → Type 0
-LetterDone rules lefts rights v a p before n work r =
-    (A B : Automaton) (b : ℕ) → RulesOf rules lefts rights A B b
+LetterDone rules lefts masks v a p before n work r =
+    (A B : Automaton) (b : ℕ) → RulesOf rules lefts masks A B b
     → Becomes before n work r (λ S w. visits (lagGraph A B b) (below S) p w (edgesOn A B b v a))
 
-module _ (rules : Rules) (lefts rights : List ℕ) (v : Vertex) (a p : ℕ) (work : List ℕ) (m : ℕ) where
+module _ (rules : Rules) (lefts masks : List ℕ) (v : Vertex) (a p : ℕ) (work : List ℕ) (m : ℕ) where
   -- by the step of the vertex and its targets
-  pub letter-done : (step : Step) → step .letter ≡ a
-      → ((A B : Automaton) (b : ℕ) → rules .top ≡ b + 1 → Side (rules .right) rights B → StepOf step A B b v)
+  pub letter-done : (step : Step) → step .letter ≡ a → a < rules .letters
+      → (lower other : Bool)
+      → ((A : Automaton) → Side (rules .left) lefts A → Needed lower true A (v .left) a × Needed other false A (v .left) a)
+      → ((A B : Automaton) (b k : ℕ) → rules .top ≡ b + 1 → a < k → RightSide (rules .right) masks (rules .states) k B
+      → Needed lower true A (v .left) a → Needed other false A (v .left) a → StepOf step A B b v)
       → (work′ : List ℕ) (r : Walked) → TargetsDone (rules .left) lefts step p work m work′ r
-      → LetterDone rules lefts rights v a p work m work′ r
-  letter-done step e steps work′ r seen A B b R =
+      → LetterDone rules lefts masks v a p work m work′ r
+  letter-done step e within lower other needs steps work′ r seen A B b R =
+      let n = needs A (R .left) in
       subst (λ (c : ℕ). Becomes work m work′ r (λ S w. visits (lagGraph A B b) (below S) p w (edgesOn A B b v c))) e
-      (seen A B b v (R .left) (steps A B b (R .top-is) (R .right)))
+      (seen A B b v (R .left) (steps A B b (rules .letters) (R .top-is) within (R .right) (n .0) (n .1)))
 
   -- where the left state has no target there is no successor
   pub letter-none : v .left < maxStates → a < maxLetters → nextFrom (transitionIn lefts (v .left) a) maxStates 0 ≡ maxStates
-      → LetterDone rules lefts rights v a p work m work (Contained m)
+      → LetterDone rules lefts masks v a p work m work (Contained m)
   letter-none h l e A B b R start ns S =
       subst (λ (es : List (ℕ × Vertex)). Shown work (Contained m) start
       (visits (lagGraph A B b) (below (slotCount (length start))) p (going ns) es))
@@ -74,19 +79,19 @@ module _ (rules : Rules) (lefts rights : List ℕ) (v : Vertex) (a p : ℕ) (wor
 
 -- Before letter a: the visits on the letters from a on make the turn of place p.
 abbrev pub LettersLeft : Rules → List ℕ → List ℕ → Vertex → ℕ → List ℕ → ℕ → List ℕ → ℕ → ℕ → Type 0
-LettersLeft rules lefts rights v p before n work m a =
-    (A B : Automaton) (b : ℕ) → RulesOf rules lefts rights A B b
+LettersLeft rules lefts masks v p before n work m a =
+    (A B : Automaton) (b : ℕ) → RulesOf rules lefts masks A B b
     → (start : List ℕ) (ns : List (Node Vertex)) → Shown before (Contained n) start (going ns)
     → Onward A B b p work m start (edgesFromLetter A B b v (rules .letters) a)
     (turn (lagGraph A B b) (below (slotCount (length start))) p (going ns))
 
 abbrev pub TurnDone : Rules → List ℕ → List ℕ → ℕ → List ℕ → ℕ → List ℕ → Walked → Type 0
-TurnDone rules lefts rights p before n work r =
-    (A B : Automaton) (b : ℕ) → RulesOf rules lefts rights A B b
+TurnDone rules lefts masks p before n work r =
+    (A B : Automaton) (b : ℕ) → RulesOf rules lefts masks A B b
     → Becomes before n work r (λ S. turn (lagGraph A B b) (below S) p)
 
-module _ (rules : Rules) (lefts rights : List ℕ) (v : Vertex) (p : ℕ) (before : List ℕ) (n : ℕ) where
-  pub letters-start : v ≡ vertexAt before p → p < n → LettersLeft rules lefts rights v p before n before n 0
+module _ (rules : Rules) (lefts masks : List ℕ) (v : Vertex) (p : ℕ) (before : List ℕ) (n : ℕ) where
+  pub letters-start : v ≡ vertexAt before p → p < n → LettersLeft rules lefts masks v p before n before n 0
   letters-start e h A B b R start ns S = (ns, S, ap (visits (lagGraph A B b) (below (slotCount (length start))) p (going ns)) (sym edges))
     where
       count : n ≡ length ns
@@ -99,19 +104,19 @@ module _ (rules : Rules) (lefts rights : List ℕ) (v : Vertex) (p : ℕ) (befor
           ∙ edges-all A B b v
           ∙ ap (λ (k : ℕ). edgesFromLetter A B b v k 0) (sym (R .letters-are))
 
-  module _ (work : List ℕ) (m a : ℕ) (O : LettersLeft rules lefts rights v p before n work m a) where
-    pub letters-end : rules .letters ≤ a → TurnDone rules lefts rights p before n work (Contained m)
+  module _ (work : List ℕ) (m a : ℕ) (O : LettersLeft rules lefts masks v p before n work m a) where
+    pub letters-end : rules .letters ≤ a → TurnDone rules lefts masks p before n work (Contained m)
     letters-end h A B b R start ns S =
         onward-end A B b p work m start (edgesFromLetter A B b v (rules .letters) a) _ (O A B b R start ns S)
         (edges-none A B b v (rules .letters) a h)
 
-    module _ (h : a < rules .letters) (work′ : List ℕ) (r : Walked) (seen : LetterDone rules lefts rights v a p work m work′ r) where
-      pub letters-stop : Stops r → TurnDone rules lefts rights p before n work′ r
+    module _ (h : a < rules .letters) (work′ : List ℕ) (r : Walked) (seen : LetterDone rules lefts masks v a p work m work′ r) where
+      pub letters-stop : Stops r → TurnDone rules lefts masks p before n work′ r
       letters-stop k A B b R start ns S =
           onward-stop A B b p work m work′ r start (edgesOn A B b v a) (edgesFromLetter A B b v (rules .letters) (a + 1))
           (edgesFromLetter A B b v (rules .letters) a) _ (O A B b R start ns S) (edges-more A B b v (rules .letters) a h) (seen A B b R) k
 
-      pub letters-next : (x : ℕ) → r ≡ Contained x → LettersLeft rules lefts rights v p before n work′ x (a + 1)
+      pub letters-next : (x : ℕ) → r ≡ Contained x → LettersLeft rules lefts masks v p before n work′ x (a + 1)
       letters-next x q A B b R start ns S =
           onward-next A B b p work m work′ r start (edgesOn A B b v a) (edgesFromLetter A B b v (rules .letters) (a + 1))
           (edgesFromLetter A B b v (rules .letters) a) _ (O A B b R start ns S) (edges-more A B b v (rules .letters) a h) (seen A B b R) x q
@@ -120,16 +125,16 @@ module _ (rules : Rules) (lefts rights : List ℕ) (v : Vertex) (p : ℕ) (befor
 
 -- Before the turn of place p: the turns from p on make the walk.
 abbrev pub TurnsLeft : Rules → List ℕ → List ℕ → List ℕ → ℕ → List ℕ → ℕ → ℕ → Type 0
-TurnsLeft rules lefts rights before n work m p =
-    (A B : Automaton) (b : ℕ) → RulesOf rules lefts rights A B b
+TurnsLeft rules lefts masks before n work m p =
+    (A B : Automaton) (b : ℕ) → RulesOf rules lefts masks A B b
     → (start : List ℕ) (ns : List (Node Vertex)) → Shown before (Contained n) start (going ns)
     → (ms : List (Node Vertex)) × Shown work (Contained m) start (going ms)
     × (turns (lagGraph A B b) (below (slotCount (length start))) (slotCount (length start) - p) p (going ms)
     ≡ turns (lagGraph A B b) (below (slotCount (length start))) (slotCount (length start)) 0 (going ns))
 
 abbrev pub TurnsDone : Rules → List ℕ → List ℕ → List ℕ → ℕ → List ℕ → Walked → Type 0
-TurnsDone rules lefts rights before n work r =
-    (A B : Automaton) (b : ℕ) → RulesOf rules lefts rights A B b
+TurnsDone rules lefts masks before n work r =
+    (A B : Automaton) (b : ℕ) → RulesOf rules lefts masks A B b
     → Becomes before n work r (λ S. turns (lagGraph A B b) (below S) S 0)
 
 stopped-turns : (A B : Automaton) (b S k p : ℕ) (work : List ℕ) (r : Walked) (start : List ℕ) (w : Walk Vertex) → Stops r
@@ -139,12 +144,12 @@ stopped-turns A B b S k p work r start (going ns) t s = absurd (subst Stops (s .
 stopped-turns A B b S k p work r start (ended ns n) t s = turns-ended (lagGraph A B b) (below S) k p ns n
 stopped-turns A B b S k p work r start (full ns) t s = turns-full (lagGraph A B b) (below S) k p ns
 
-module _ (rules : Rules) (lefts rights before : List ℕ) (n : ℕ) where
-  pub turns-start : TurnsLeft rules lefts rights before n before n 0
+module _ (rules : Rules) (lefts masks before : List ℕ) (n : ℕ) where
+  pub turns-start : TurnsLeft rules lefts masks before n before n 0
   turns-start A B b R start ns S = (ns, S, rw (sub-zero (slotCount (length start))))
 
-  module _ (work : List ℕ) (m p : ℕ) (O : TurnsLeft rules lefts rights before n work m p) where
-    pub turns-end : m ≤ p → TurnsDone rules lefts rights before n work (Contained m)
+  module _ (work : List ℕ) (m p : ℕ) (O : TurnsLeft rules lefts masks before n work m p) where
+    pub turns-end : m ≤ p → TurnsDone rules lefts masks before n work (Contained m)
     turns-end h A B b R start ns S =
         let o = O A B b R start ns S in
         let k = slotCount (length start) in
@@ -152,13 +157,13 @@ module _ (rules : Rules) (lefts rights before : List ℕ) (n : ℕ) where
         subst (λ (w : Walk Vertex). Shown work (Contained m) start w)
         (sym (turns-past (lagGraph A B b) (below k) (k - p) p (o .0) (omega arith)) ∙ o .2) (o .1)
 
-    module _ (h : p < m) (work′ : List ℕ) (r : Walked) (seen : TurnDone rules lefts rights p work m work′ r) where
+    module _ (h : p < m) (work′ : List ℕ) (r : Walked) (seen : TurnDone rules lefts masks p work m work′ r) where
       one-turn : (A B : Automaton) (b S : ℕ) (w : Walk Vertex) → p < S
           → turns (lagGraph A B b) (below S) (S - p) p w ≡ turns (lagGraph A B b) (below S) (S - (p + 1)) (p + 1)
           (turn (lagGraph A B b) (below S) p w)
       one-turn A B b S w l = let q : S - p ≡ suc (S - (p + 1)) = omega arith in rw (q, add-one)
 
-      module _ (A B : Automaton) (b : ℕ) (R : RulesOf rules lefts rights A B b) (start : List ℕ) (ns : List (Node Vertex))
+      module _ (A B : Automaton) (b : ℕ) (R : RulesOf rules lefts masks A B b) (start : List ℕ) (ns : List (Node Vertex))
           (S : Shown before (Contained n) start (going ns)) where
         abbrev slots : ℕ
         slots = slotCount (length start)
@@ -177,7 +182,7 @@ module _ (rules : Rules) (lefts rights before : List ℕ) (n : ℕ) where
             let count : m ≡ length so-far = let q = o .1 .answer in cc in
             sym (one-turn A B b slots (going so-far) (omega arith)) ∙ o .2
 
-      pub turns-stop : Stops r → TurnsDone rules lefts rights before n work′ r
+      pub turns-stop : Stops r → TurnsDone rules lefts masks before n work′ r
       turns-stop t A B b R start ns S =
           let k = slotCount (length start) in
           let w = turn (lagGraph A B b) (below k) p (going (so-far A B b R start ns S)) in
@@ -185,7 +190,7 @@ module _ (rules : Rules) (lefts rights before : List ℕ) (n : ℕ) where
           subst (λ (x : Walk Vertex). Shown work′ r start x)
           (sym (stopped-turns A B b k (k - (p + 1)) (p + 1) work′ r start w t d) ∙ whole A B b R start ns S) d
 
-      pub turns-next : (x : ℕ) → r ≡ Contained x → TurnsLeft rules lefts rights before n work′ x (p + 1)
+      pub turns-next : (x : ℕ) → r ≡ Contained x → TurnsLeft rules lefts masks before n work′ x (p + 1)
       turns-next x e A B b R start ns S =
           let k = slotCount (length start) in
           let w = turn (lagGraph A B b) (below k) p (going (so-far A B b R start ns S)) in
@@ -210,11 +215,11 @@ module _ (A B : Automaton) (b : ℕ) (first : Vertex) (is-initial : first ≡ in
       subst (λ (w : Walk Vertex). Shown work′ r work w)
       (sym (stopped-turns A B b S S 0 work′ r work (begin (lagGraph A B b) (below S)) t began)) began
 
-  pub walk-on : (n : ℕ) → r ≡ Contained n → (rules : Rules) (lefts rights : List ℕ) → RulesOf rules lefts rights A B b
-      → (work″ : List ℕ) (r′ : Walked) → TurnsDone rules lefts rights work′ n work″ r′
+  pub walk-on : (n : ℕ) → r ≡ Contained n → (rules : Rules) (lefts masks : List ℕ) → RulesOf rules lefts masks A B b
+      → (work″ : List ℕ) (r′ : Walked) → TurnsDone rules lefts masks work′ n work″ r′
       → Shown work″ r′ work (walkOf A B b (slotCount (length work)))
   unfolding walkOf
-  walk-on n e rules lefts rights R work″ r′ done =
+  walk-on n e rules lefts masks R work″ r′ done =
       let S = slotCount (length work) in
       let g = shown-going work′ r n work (begin (lagGraph A B b) (below S)) e began in
       subst (λ (w : Walk Vertex). Shown work″ r′ work (turns (lagGraph A B b) (below S) S 0 w)) (sym (g .1))

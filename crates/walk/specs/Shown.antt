@@ -4,21 +4,24 @@
 --   Becomes                  from a buffer that shows a list with n vertices the code goes on to show what `step` makes of it
 --   Ready                    a work buffer with n slots taken, and its index: what the next visit needs
 --   Side                     the bytes of the accepting states and of the transitions are those of the automaton A, which is in range
---   RulesOf                  the rules and the bytes of the transitions are those of the left and the right automaton at bound b
---   StepOf                   the counters of a step of the vertex v are those after it
+--   Masks masks t n k        the masks of the transitions t from the states below n on the letters below k: 255 or 0
+--   RightSide                the bytes of the accepting states, the number n of states and the masks are those of the automaton B
+--   RulesOf                  the rules, the left transitions and the masks are those of the left and the right automaton at bound b
+--   NoneFrom t n a           no state from n on has a transition on letter a
+--   PresentOf                a list of states below n, among them all that have a counter above 0
+--   Needed                   a flag that is set where some left target of q on letter a accepts, or where one does not
+--   StepOf                   the counters of a step of the vertex v are those after it, at each of its left targets
 --   largestInto t a f r      the largest counter of the predecessors of r on letter a, looked up in the bytes t of the transitions
---   raisedAt f x before r    the counter of r, raised to x where f holds
 --   counterFrom              a right state's counter after a step, from that number
 --   FoundFinal               a walk has ended with the final vertex at a place, found by a letter from the vertex at place `parent`
---   wordAfter word w         the word buffer after the word w: "the written part", and unchanged where the word has no room
 --   WordRead                 the answer and the word buffer are those of the word of that final vertex
 -- Assumes nothing.
 use mathlib.Core.Path.{_≡_}
 use mathlib.Core.Bool.{Bool, true, false, cond}
-use mathlib.Core.List.{List, [], _∷_, _++_}
-use Prim.Native.Nat.{ℕ, _+_, _-_, _≤_, _<_, max}
-use lib.Dec.{leb, ltb}
-use lib.ListN.{length, getD, drop}
+use mathlib.Core.List.{List, [], _∷_}
+use Prim.Native.Nat.{ℕ, _+_, _-_, _*_, _≤_, _<_}
+use lib.Dec.{ltb}
+use lib.ListN.{length, getD}
 use Rattle.automaton.specs.declared.Automaton.{Automaton}
 use Rattle.automaton.specs.Automata.{maxStates, accepts, InRange}
 use Rattle.automaton.specs.Members.{transitionIn}
@@ -27,17 +30,22 @@ use Rattle.slots.specs.declared.Vertex.{Vertex}
 use Rattle.slots.specs.Slots.{slotCount}
 use Rattle.slots.specs.Bytes.{vertexAt, Indexed}
 use Rattle.walk.specs.declared.Rules.{Rules}
+use Rattle.walk.specs.declared.present.Present.{Present}
 use Rattle.walk.specs.declared.Step.{Step}
 use Rattle.walk.specs.declared.Walked.{Walked}
 use Rattle.walk.specs.declared.Walked.the-variants.{Contained, Differs, Full}
 use Rattle.walk.specs.Discovery.{Node, Walk, going, ended, full, nodesOf}
 use Rattle.walk.specs.LagGraph.{stepped}
-use Rattle.walk.specs.Walks.{walkOf, workAfter, wordOf}
+use Rattle.walk.specs.Walks.{walkOf, workAfter, wordOf, wordAfter}
 
 abbrev pub walkedOf : ℕ → Walk Vertex → Walked
 walkedOf S (going ns) = Contained (length ns)
 walkedOf S (ended ns n) = Differs (length ns) (n .letter) (n .parent)
 walkedOf S (full ns) = Full S
+
+-- the vertex of a left state and counters
+abbrev pub vertexOf : ℕ → List ℕ → Vertex
+vertexOf l cs = record { left = l; counters = cs }
 
 -- every vertex has 32 counters
 abbrev pub Wide : List (Node Vertex) → Type 0
@@ -72,23 +80,47 @@ pub record Side (accepting transitions : List ℕ) (A : Automaton) : Type 0 wher
   pub transitions-are : transitions ≡ A .transitions
   pub in-range : InRange A
 
-pub record RulesOf (rules : Rules) (lefts rights : List ℕ) (A B : Automaton) (b : ℕ) : Type 0 where
+-- the mask for the transition from p on letter a to r stands at place (a * 32 + p) * 32 + r
+abbrev pub Masks : List ℕ → List ℕ → ℕ → ℕ → Type 0
+Masks masks t n k =
+    (a p r : ℕ) → a < k → p < n → r < maxStates → getD masks ((a * 32 + p) * 32 + r) 0 ≡ cond (transitionIn t p a r) 255 0
+
+-- the masks are those of the letters below k
+pub record RightSide (accepting masks : List ℕ) (n k : ℕ) (B : Automaton) : Type 0 where
+  pub accepting-is : accepting ≡ B .accepting
+  pub states-are : n ≡ B .states
+  pub masks-are : Masks masks (B .transitions) n k
+  pub in-range : InRange B
+
+pub record RulesOf (rules : Rules) (lefts masks : List ℕ) (A B : Automaton) (b : ℕ) : Type 0 where
   pub letters-are : rules .letters ≡ A .letters
   pub top-is : rules .top ≡ b + 1
   pub left : Side (rules .left) lefts A
-  pub right : Side (rules .right) rights B
+  pub right : RightSide (rules .right) masks (rules .states) (rules .letters) B
+
+-- t is a left target of q on letter a, and y says whether it accepts
+abbrev pub StepsTo : Bool → Automaton → ℕ → ℕ → ℕ → Type 0
+StepsTo y A q a t = (t < maxStates) × (transitionIn (A .transitions) q a t ≡ true) × (accepts A t ≡ y)
+
+abbrev pub Needed : Bool → Bool → Automaton → ℕ → ℕ → Type 0
+Needed needed y A q a = (t : ℕ) → StepsTo y A q a t → needed ≡ true
 
 pub record StepOf (step : Step) (A B : Automaton) (b : ℕ) (v : Vertex) : Type 0 where
   pub left-is : step .left ≡ v .left
-  pub lowered-are : (t : ℕ) → accepts A t ≡ true → step .lowered ≡ stepped A B b (step .letter) t (v .counters)
-  pub others-are : (t : ℕ) → accepts A t ≡ false → step .others ≡ stepped A B b (step .letter) t (v .counters)
+  pub lowered-are : (t : ℕ) → StepsTo true A (v .left) (step .letter) t → step .lowered ≡ stepped A B b (step .letter) t (v .counters)
+  pub others-are : (t : ℕ) → StepsTo false A (v .left) (step .letter) t → step .others ≡ stepped A B b (step .letter) t (v .counters)
 
 unfoldable pub largestInto : List ℕ → ℕ → List ℕ → ℕ → ℕ
 largestInto t a f r = largest (λ p. cond (transitionIn t p a r) (getD f p 0) 0) maxStates 0
 
--- f: the targets of a state with counter x
-abbrev pub raisedAt : (ℕ → Bool) → ℕ → List ℕ → ℕ → ℕ
-raisedAt f x before r = cond (f r) (max (getD before r 0) x) (getD before r 0)
+abbrev pub NoneFrom : List ℕ → ℕ → ℕ → Type 0
+NoneFrom t n a = (p r : ℕ) → n ≤ p → p < maxStates → r < maxStates → transitionIn t p a r ≡ false
+
+-- f are the counters
+pub record PresentOf (present : Present) (f : List ℕ) (n : ℕ) : Type 0 where
+  pub few : present .count ≤ n
+  pub below : (i : ℕ) → i < present .count → getD (present .places) i 0 < n
+  pub all : (p : ℕ) → p < n → 0 < getD f p 0 → (i : ℕ) × (i < present .count) × (getD (present .places) i 0 ≡ p)
 
 -- top is b + 1; y: the right state accepts; l: the left target accepts
 abbrev pub counterFrom : ℕ → Bool → Bool → ℕ → ℕ
@@ -108,9 +140,6 @@ pub record FoundFinal (work : List ℕ) (place letter parent : ℕ) : Type 0 whe
   pub place-is : place ≡ length nodes
   pub letter-is : letter ≡ last .letter
   pub parent-is : parent ≡ last .parent
-
-abbrev pub wordAfter : List ℕ → List ℕ → List ℕ
-wordAfter word w = cond (leb (length w) (length word)) (w ++ drop (length w) word) word
 
 -- the length of the word of the final vertex, and the word buffer after it
 pub record WordRead (work : List ℕ) (place letter parent : ℕ) (word : List ℕ) (r : ℕ) (after : List ℕ)

@@ -3,12 +3,15 @@
 --   slotsOf ns        the slots of the listed vertices: "Each new vertex that is not final is written into the next free slot"
 --   workAfter work w  "Unused bytes keep their contents. A final vertex takes no slot"
 --   wordOf            the word of the final vertex
+--   wordAfter word w  the word buffer after the word w: w in front where it has room, else unchanged; the rest as it was
 --   Fits A B b S w    w is the discovery list, and its vertices that are not final fit S slots: "no final vertex and length at most
 --                     S", or "place i of the final vertex, counted from 0: i at most S"
 --   NeedsMore A B b S "otherwise refusal 10": the discovery list does not fit
 -- Assumes nothing.
+use mathlib.Core.Bool.{cond}
 use mathlib.Core.List.{List, flatMap, _++_}
 use Prim.Native.Nat.{ℕ, _*_, _≤_}
+use lib.Dec.{leb}
 use lib.ListN.{length, drop}
 use Rattle.automaton.specs.declared.Automaton.{Automaton}
 use Rattle.slots.specs.declared.Vertex.{Vertex}
@@ -27,6 +30,9 @@ workAfter work w = slotsOf (nodesOf w) ++ drop (slotSize * length (nodesOf w)) w
 
 unfoldable pub wordOf : Automaton → Automaton → ℕ → List (Node Vertex) → Node Vertex → List ℕ
 wordOf A B b ns n = finalWord (lagGraph A B b) ns n
+
+abbrev pub wordAfter : List ℕ → List ℕ → List ℕ
+wordAfter word w = cond (leb (length w) (length word)) (w ++ drop (length w) word) word
 
 pub record Fits (A B : Automaton) (b S : ℕ) (w : Walk Vertex) : Type 0 where
   pub list : DiscoveryList (lagGraph A B b) w

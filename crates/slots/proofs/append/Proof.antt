@@ -13,9 +13,6 @@ all-counters c = search needs
 store-requires : tie.Need-store-requires
 store-requires c κs = search needs
 
-hash-requires : tie.Need-hash-requires
-hash-requires c κs = search needs
-
 link-requires : tie.Need-link-requires
 link-requires c κs = search needs
 
@@ -31,15 +28,14 @@ same-length-3 c = search needs
 returns : tie.Need-returns
 returns c =
     let k = c .before .before .before .before in
-    let h = k .before .hash in
-    let w = k .before .before .before .before .before .before in
+    let w = k .before .before .before .before .before in
     let e = w .store .ensures in
     let s = w .before .before .before .before .before in
     let a = s .args in (
       e,
       rw (e, k .link .ensures .0, k .link .ensures .1)
-          (index-stored (a .work .now) (a .heads .now) (a .nexts .now) (a .n) (h .result) (a .v) (a .letter) (a .parent) (s .pre .2)
-          (omega arith) (all-counters s) (h .ensures .0) (h .ensures .1) (omega arith)),
+          (index-stored (a .work .now) (a .heads .now) (a .nexts .now) (a .n) (a .h) (a .v) (a .letter) (a .parent) (s .pre .4)
+          (omega arith) (all-counters s) (s .pre .2) (s .pre .3) (omega arith)),
     )
 
 pub append-spec : {M : Type 1} → statement M
@@ -47,7 +43,6 @@ append-spec =
     tie.close
     (tie.spec
     store-requires
-    hash-requires
     link-requires
     same-length
     same-length-2

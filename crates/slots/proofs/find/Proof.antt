@@ -14,9 +14,6 @@ Inv-loop work heads nexts n v h c₀ c = Chain work v n h c
 abbrev μ-loop : tie.MeasureT-loop
 μ-loop work heads nexts n v h c₀ c = c
 
-hash-requires : tie.Need-hash-requires Inv-loop μ-loop
-hash-requires c κs = search needs
-
 mul-c : tie.Need-mul-c Inv-loop μ-loop
 mul-c c = search needs
 
@@ -24,12 +21,12 @@ shared-slice-read-c : tie.Need-shared-slice-read-c Inv-loop μ-loop
 shared-slice-read-c c = search needs
 
 cast-c : tie.Need-cast-c Inv-loop μ-loop
-cast-c c = omega (arith, c .shared-slice-known4 .given (c .before .hash .result))
+cast-c c = omega (arith, c .shared-slice-known4 .given (c .before .before .before .before .args .h))
 
 loop-holds : tie.Need-loop-holds Inv-loop μ-loop
 loop-holds c =
-    let e = c .before .hash .ensures in
-    chain-start _ _ _ (e .0) _ _ _ (c .before .before .before .before .before .pre .1) (e .1)
+    let p = c .before .before .before .before .pre in
+    chain-start _ _ _ (p .1) _ _ _ (p .3) (p .2)
 
 sub-s : tie.Need-sub-s Inv-loop μ-loop
 sub-s c = search needs
@@ -56,14 +53,14 @@ loop-less : tie.Need-loop-less Inv-loop μ-loop
 loop-less c =
     let l = c .before .before .before .before .loop in
     let t = sym (c .before .before .holds .ensures) ∙ c .before .if1 .left in
-    let i = c .before .before .before .before .before .before .before .before .before .before .pre .1 in
+    let i = c .before .before .before .before .before .before .before .before .before .pre .3 in
     chain-next _ _ _ (l .inv .key) _ _ _ i (l .c) (l .inv) (c .before .before .before .loop-test .taken) t .1
 
 loop-again : tie.Need-loop-again Inv-loop μ-loop
 loop-again c =
     let l = c .before .before .before .before .loop in
     let t = sym (c .before .before .holds .ensures) ∙ c .before .if1 .left in
-    let i = c .before .before .before .before .before .before .before .before .before .before .pre .1 in
+    let i = c .before .before .before .before .before .before .before .before .before .pre .3 in
     chain-next _ _ _ (l .inv .key) _ _ _ i (l .c) (l .inv) (c .before .before .before .loop-test .taken) t .0
 
 returns-2 : tie.Need-returns-2 Inv-loop μ-loop
@@ -77,7 +74,6 @@ find-spec =
     (tie.spec
     Inv-loop
     μ-loop
-    hash-requires
     mul-c
     shared-slice-read-c
     cast-c

@@ -6,43 +6,54 @@ use native.Mathlib.Omega.{arith}
 use borrow.Author.Needs.{needs}
 use Rattle.automaton.specs.Automata.{maxStates}
 use Rattle.slots.specs.declared.Vertex.{Vertex}
+use Rattle.walk.specs.Shown.{PresentOf}
 use Rattle.walk.proofs.Onward.{Kept, other-stops}
 use Rattle.walk.proofs.TurnLoops.{LettersLeft, letters-start, letters-next, letters-stop, letters-end}
 use Rattle.walk.proofs.turn.Statement.{statement}
 use Rattle.walk.proofs.turn.Tie as tie
 
 abbrev Inv-loop : tie.InvT-loop
-Inv-loop rules lefts rights work₀ heads₀ nexts₀ n p letters v listed₀ letter₀ work heads nexts listed letter =
+Inv-loop rules lefts masks work₀ heads₀ nexts₀ n p table letters v present listed₀ letter₀ work heads nexts listed letter =
     (letters ≡ rules .letters) × (letter ≤ letters) × Kept work₀ heads₀ nexts₀ work heads nexts listed
-    × LettersLeft rules lefts rights v p work₀ n work listed letter
+    × PresentOf present (v .counters) (rules .states)
+    × LettersLeft rules lefts masks v p work₀ n work listed letter
 
 abbrev μ-loop : tie.MeasureT-loop
-μ-loop rules lefts rights work₀ heads₀ nexts₀ n p letters v listed₀ letter₀ work heads nexts listed letter =
+μ-loop rules lefts masks work₀ heads₀ nexts₀ n p table letters v present listed₀ letter₀ work heads nexts listed letter =
     letters - letter
 
 load-requires : tie.Need-load-requires Inv-loop μ-loop
 load-requires c κs = search needs
 
+present-of-requires : tie.Need-present-of-requires Inv-loop μ-loop
+present-of-requires c κs = search needs
+
 loop-holds : tie.Need-loop-holds Inv-loop μ-loop
 loop-holds c =
-    let s = c .before .before .before .before .before in
+    let l = c .before .before in
+    let s = l .before .before .before .before .before in
     let a = s .args in (
       refl,
       search needs,
       record { work-long = refl; heads-long = refl; nexts-long = refl; ready = s .pre .0 },
-      letters-start (a .rules) (a .lefts .now) (a .rights .now) (c .load .result) (a .p) (a .work .now) (a .n)
-          (c .load .ensures) (s .pre .1),
+      c .present-of .ensures,
+      letters-start (a .rules) (a .lefts .now) (a .masks .now) (l .load .result) (a .p) (a .work .now) (a .n)
+          (l .load .ensures) (s .pre .1),
     )
 
 visit-letter-requires : tie.Need-visit-letter-requires Inv-loop μ-loop
 visit-letter-requires c κs =
     let h = c .before .before .before in
-    let s = h .before .before .before .before .before .before .before in
+    let s = h .before .before .before .before .before .before .before .before .before in
     let l = s .pre .0 .lefts (s .args .p) (s .pre .1) in (
       h .before .loop .inv .2 .ready,
       omega (arith, s .pre),
-      subst (λ (v : Vertex). v .left < maxStates) (sym (h .before .before .load .ensures)) l,
-      omega (arith, h .loop-test .taken, s .pre .2),
+      subst (λ (v : Vertex). v .left < maxStates) (sym (h .before .before .before .before .load .ensures)) l,
+      h .loop-test .taken,
+      s .pre .2,
+      s .pre .3,
+      h .before .loop .inv .3,
+      s .pre .4,
     )
 
 enum-known-seen : tie.Need-enum-known-seen Inv-loop μ-loop
@@ -69,10 +80,10 @@ returns c =
     let v = w .visit-letter in
     let h = w .before .before .before .before in
     let l = h .before .loop in
-    let a = h .before .before .before .before .before .before .before .args in (
-      letters-stop (a .rules) (a .lefts .now) (a .rights .now) (h .before .before .load .result) (a .p)
+    let a = h .before .before .before .before .before .before .before .before .before .args in (
+      letters-stop (a .rules) (a .lefts .now) (a .masks .now) (h .before .before .before .before .load .result) (a .p)
           (a .work .now) (a .n)
-          (l .work) (l .listed) (l .letter) (l .inv .3) (h .loop-test .taken)
+          (l .work) (l .listed) (l .letter) (l .inv .4) (h .loop-test .taken)
           (v .last .1 .1 .1 .0) (v .result) (v .ensures .0) (other-stops (v .result) (c .match .keys2)),
       v .ensures .1,
     )
@@ -80,7 +91,7 @@ returns c =
 add-letter : tie.Need-add-letter Inv-loop μ-loop
 add-letter c =
     let h = c .before .before .before .before .before .before .before .before .before .before .before .before .before in
-    omega (arith, h .loop-test .taken, h .before .before .before .before .before .before .before .pre .2)
+    omega (arith, h .loop-test .taken, h .before .before .before .before .before .before .before .before .before .pre .2)
 
 loop-less : tie.Need-loop-less Inv-loop μ-loop
 loop-less c = search needs
@@ -91,7 +102,7 @@ loop-again c =
     let v = w .visit-letter in
     let h = w .before .before .before .before in
     let l = h .before .loop in
-    let a = h .before .before .before .before .before .before .before .args in
+    let a = h .before .before .before .before .before .before .before .before .before .args in
     let g = c .before .seen .given .1 in (
       refl,
       omega (arith, h .loop-test .taken),
@@ -101,9 +112,10 @@ loop-again c =
         nexts-long = v .kept .1 .1 .1 .1 .1 .0 ∙ l .inv .2 .nexts-long;
         ready = rw g at (v .ensures .1);
       },
-      letters-next (a .rules) (a .lefts .now) (a .rights .now) (h .before .before .load .result) (a .p)
+      l .inv .3,
+      letters-next (a .rules) (a .lefts .now) (a .masks .now) (h .before .before .before .before .load .result) (a .p)
           (a .work .now) (a .n)
-          (l .work) (l .listed) (l .letter) (l .inv .3) (h .loop-test .taken)
+          (l .work) (l .listed) (l .letter) (l .inv .4) (h .loop-test .taken)
           (v .last .1 .1 .1 .0) (v .result) (v .ensures .0) _ g,
     )
 
@@ -119,10 +131,10 @@ same-length-6 c = c .before .loop .inv .2 .nexts-long
 returns-2 : tie.Need-returns-2 Inv-loop μ-loop
 returns-2 c =
     let l = c .before .loop in
-    let a = c .before .before .before .before .before .before .before .args in (
-      letters-end (a .rules) (a .lefts .now) (a .rights .now) (c .before .before .load .result) (a .p)
+    let a = c .before .before .before .before .before .before .before .before .before .args in (
+      letters-end (a .rules) (a .lefts .now) (a .masks .now) (c .before .before .before .before .load .result) (a .p)
           (a .work .now) (a .n)
-          (l .work) (l .listed) (l .letter) (l .inv .3) (c .loop-test .left),
+          (l .work) (l .listed) (l .letter) (l .inv .4) (c .loop-test .left),
       l .inv .2 .ready,
     )
 
@@ -133,6 +145,7 @@ turn-spec =
     Inv-loop
     μ-loop
     load-requires
+    present-of-requires
     loop-holds
     visit-letter-requires
     enum-known-seen

@@ -12,27 +12,28 @@ use Rattle.walk.proofs.turns.Statement.{statement}
 use Rattle.walk.proofs.turns.Tie as tie
 
 abbrev Inv-loop : tie.InvT-loop
-Inv-loop rules lefts rights work₀ heads₀ nexts₀ n listed₀ p₀ work heads nexts listed p =
+Inv-loop rules lefts masks work₀ heads₀ nexts₀ n table listed₀ p₀ work heads nexts listed p =
     Kept work₀ heads₀ nexts₀ work heads nexts listed
-    × TurnsLeft rules lefts rights work₀ n work listed p
+    × TurnsLeft rules lefts masks work₀ n work listed p
 
 abbrev μ-loop : tie.MeasureT-loop
-μ-loop rules lefts rights work₀ heads₀ nexts₀ n listed₀ p₀ work heads nexts listed p = slotCount (length work₀) - p
+μ-loop rules lefts masks work₀ heads₀ nexts₀ n table listed₀ p₀ work heads nexts listed p = slotCount (length work₀) - p
 
 loop-holds : tie.Need-loop-holds Inv-loop μ-loop
 loop-holds c =
     let s = c .before .before .before in
     let a = s .args in (
       record { work-long = refl; heads-long = refl; nexts-long = refl; ready = s .pre .0 },
-      turns-start (a .rules) (a .lefts .now) (a .rights .now) (a .work .now) (a .n),
+      turns-start (a .rules) (a .lefts .now) (a .masks .now) (a .work .now) (a .n),
     )
 
 turn-requires : tie.Need-turn-requires Inv-loop μ-loop
 turn-requires c κs = (
   c .before .before .before .before .loop .inv .0 .ready,
   c .before .before .before .loop-test .taken,
-  c .before
-      .before .before .before .before .before .before .before .pre .1,
+  c .before .before .before .before .before .before .before .before .pre .1,
+  c .before .before .before .before .before .before .before .before .pre .2,
+  c .before .before .before .before .before .before .before .before .pre .3,
 )
 
 enum-known-seen : tie.Need-enum-known-seen Inv-loop μ-loop
@@ -60,7 +61,7 @@ returns c =
     let h = w .before .before .before .before in
     let l = h .before .loop in
     let a = h .before .before .before .before .before .args in
-    turns-stop (a .rules) (a .lefts .now) (a .rights .now) (a .work .now) (a .n)
+    turns-stop (a .rules) (a .lefts .now) (a .masks .now) (a .work .now) (a .n)
     (l .work) (l .listed) (l .p) (l .inv .1) (h .loop-test .taken)
     (v .last .1 .1 .1 .0) (v .result) (v .ensures .0) (other-stops (v .result) (c .match .keys2))
 
@@ -89,7 +90,7 @@ loop-again c =
         nexts-long = v .kept .1 .1 .1 .1 .1 .0 ∙ l .inv .0 .nexts-long;
         ready = rw g at (v .ensures .1);
       },
-      turns-next (a .rules) (a .lefts .now) (a .rights .now) (a .work .now) (a .n)
+      turns-next (a .rules) (a .lefts .now) (a .masks .now) (a .work .now) (a .n)
           (l .work) (l .listed) (l .p) (l .inv .1) (h .loop-test .taken)
           (v .last .1 .1 .1 .0) (v .result) (v .ensures .0) _ g,
     )
@@ -107,7 +108,7 @@ returns-2 : tie.Need-returns-2 Inv-loop μ-loop
 returns-2 c =
     let l = c .before .loop in
     let a = c .before .before .before .before .before .args in
-    turns-end (a .rules) (a .lefts .now) (a .rights .now) (a .work .now) (a .n)
+    turns-end (a .rules) (a .lefts .now) (a .masks .now) (a .work .now) (a .n)
     (l .work) (l .listed) (l .p) (l .inv .1) (c .loop-test .left)
 
 pub turns-spec : {M : Type 1} → statement M

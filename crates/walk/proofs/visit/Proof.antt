@@ -1,14 +1,14 @@
 -- `walk::visit` meets its contract: the search tells whether the vertex is listed, and the tests after it decide among final, stored
 -- and no slot left. Assumes nothing.
-use mathlib.Core.Path.{_≡_, sym, _∙_}
+use mathlib.Core.Path.{sym, _∙_}
 use borrow.Author.Needs.{needs}
-use lib.ListN.{length}
+use Rattle.walk.specs.Shown.{vertexOf}
 use Rattle.walk.proofs.ShownSlots.{visit-known, visit-final, visit-full, visit-stored, ready-stored}
 use Rattle.walk.proofs.visit.Statement.{statement}
 use Rattle.walk.proofs.visit.Tie as tie
 
-all-counters : (c : tie.Start) → length (c .args .v .counters) ≡ 32
-all-counters c = search needs
+vertex-hash-requires : tie.Need-vertex-hash-requires
+vertex-hash-requires c κs = search needs
 
 find-requires : tie.Need-find-requires
 find-requires c κs = search needs
@@ -34,19 +34,23 @@ same-length-3 c = search needs
 returns : tie.Need-returns
 returns c =
     let f = c .before .before .before .before .before in
-    let a = f .before .before .before .before .before .before .before .args in
+    let a = f .before .before .before .before .before .before .before .before .before .args in
     let g = sym (f .find .ensures) ∙ c .before .before .before .enum-told2 .given .1 in
     let z = sym (c .before .is-final .ensures) ∙ c .if1 .taken in
-    (λ A B b start ns S. visit-final A B b (a .work .now) (a .n) start ns S (a .p) (a .letter) (a .v) g z, tt)
+    (λ A B b start ns S. visit-final A B b (a .work .now) (a .n) start ns S (a .p) (a .letter) (vertexOf (a .left) (a .counters .now)) g z, tt)
 
 slot-count-requires : tie.Need-slot-count-requires
 slot-count-requires c κs = search needs
 
 append-requires : tie.Need-append-requires
-append-requires c κs = search needs
+append-requires c κs =
+    let t = c .before .before .before .before in
+    let s = c .before .before .before .before .before .before .before .before .before .before .before .before .before .before .before .before .before .before .before .before in
+    let h = c .before .before .before .before .before .before .before .before .before .before .before .before .before .before .before .vertex-hash .ensures in
+    (rw (t .before .slot-count .ensures) at (t .if2 .taken), s .pre .2, h .0, h .1, s .pre .0 .index)
 
-add-t29 : tie.Need-add-t29
-add-t29 c = search needs
+add-t36 : tie.Need-add-t36
+add-t36 c = search needs
 
 same-length-4 : tie.Need-same-length-4
 same-length-4 c = search needs
@@ -60,10 +64,10 @@ same-length-6 c = search needs
 returns-2 : tie.Need-returns-2
 returns-2 c =
     let f = c .before .before in
-    let s = f .before .before .before .before .before .before .before in
+    let s = f .before .before .before .before .before .before .before .before .before in
     let a = s .args in
     let g = sym (f .find .ensures) ∙ c .enum-told .given .1 in
-    (λ A B b start ns S. visit-known A B b (a .work .now) (a .n) start ns S (a .p) (a .letter) (a .v) _ g, s .pre .0)
+    (λ A B b start ns S. visit-known A B b (a .work .now) (a .n) start ns S (a .p) (a .letter) (vertexOf (a .left) (a .counters .now)) _ g, s .pre .0)
 
 same-length-7 : tie.Need-same-length-7
 same-length-7 c = search needs
@@ -76,19 +80,19 @@ same-length-9 c = search needs
 
 returns-3 : tie.Need-returns-3
 returns-3 c =
-    let t = c .before .before .before .before .before .before .before .before .before .before in
+    let t = c .before .before .before .before .before .before .before .before .before .before .before in
     let e = t .before .before in
     let f = e .before .before .before .before .before in
-    let s = f .before .before .before .before .before .before .before in
+    let s = f .before .before .before .before .before .before .before .before .before in
     let a = s .args in
     let g = sym (f .find .ensures) ∙ e .before .before .before .enum-told2 .given .1 in
     let z = sym (e .before .is-final .ensures) ∙ e .if1 .left in
     let h = rw (t .before .slot-count .ensures) at (t .if2 .taken) in
-    let l = all-counters s in
+    let l = f .before .before .before .before .vertex-hash .ensures .2 in
     let p = c .before .before .before .before .before .before .append .ensures in (
-      λ A B b start ns S. rw (p .0) (visit-stored A B b (a .work .now) (a .n) start ns S (a .p) (a .letter) (a .v) g z h l),
+      λ A B b start ns S. rw (p .0) (visit-stored A B b (a .work .now) (a .n) start ns S (a .p) (a .letter) (vertexOf (a .left) (a .counters .now)) g z h l),
       rw (p .0)
-          (ready-stored (a .work .now) (a .heads .now) (a .nexts .now) _ _ (a .n) (a .letter) (a .p) (a .v) (s .pre .0) h (s .pre .1) l
+          (ready-stored (a .work .now) (a .heads .now) (a .nexts .now) _ _ (a .n) (a .letter) (a .p) (vertexOf (a .left) (a .counters .now)) (s .pre .0) h (s .pre .1) l
           (rw (p .0) at (p .1))),
     )
 
@@ -105,16 +109,17 @@ returns-4 : tie.Need-returns-4
 returns-4 c =
     let e = c .before .before in
     let f = e .before .before .before .before .before in
-    let a = f .before .before .before .before .before .before .before .args in
+    let a = f .before .before .before .before .before .before .before .before .before .args in
     let g = sym (f .find .ensures) ∙ e .before .before .before .enum-told2 .given .1 in
     let z = sym (e .before .is-final .ensures) ∙ e .if1 .left in
     let h = rw (c .before .slot-count .ensures) at (c .if2 .left) in
-    (λ A B b start ns S. visit-full A B b (a .work .now) (a .n) start ns S (a .p) (a .letter) (a .v) g z h, tt)
+    (λ A B b start ns S. visit-full A B b (a .work .now) (a .n) start ns S (a .p) (a .letter) (vertexOf (a .left) (a .counters .now)) g z h, tt)
 
 pub visit-spec : {M : Type 1} → statement M
 visit-spec =
     tie.close
     (tie.spec
+    vertex-hash-requires
     find-requires
     enum-told
     enum-told-2
@@ -125,7 +130,7 @@ visit-spec =
     returns
     slot-count-requires
     append-requires
-    add-t29
+    add-t36
     same-length-4
     same-length-5
     same-length-6

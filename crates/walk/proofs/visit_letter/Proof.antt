@@ -1,7 +1,9 @@
 -- `walk::visit_letter` meets its contract: without a left target there is no successor, and else the step's targets are visited.
 -- Assumes nothing.
 use mathlib.Core.Path.{sym, _∙_}
+use native.Mathlib.Omega.{arith}
 use borrow.Author.Needs.{needs}
+use Rattle.walk.proofs.LeftTargets.{flags-needed}
 use Rattle.walk.proofs.TurnLoops.{letter-done, letter-none}
 use Rattle.walk.proofs.visit_letter.Statement.{statement}
 use Rattle.walk.proofs.visit_letter.Tie as tie
@@ -16,16 +18,41 @@ returns : tie.Need-returns
 returns c =
     let s = c .before .before .before .before .before .before in
     let a = s .args in (
-      letter-none (a .rules) (a .lefts .now) (a .rights .now) (a .v) (a .letter) (a .p) (a .work .now) (a .n)
-          (s .pre .2) (s .pre .3) (sym (c .before .next-target .ensures) ∙ c .if1 .taken),
+      letter-none (a .rules) (a .lefts .now) (a .masks .now) (a .v) (a .letter) (a .p) (a .work .now) (a .n)
+          (s .pre .2) (omega (arith, s .pre)) (sym (c .before .next-target .ensures) ∙ c .if1 .taken),
       s .pre .0,
     )
+
+cast-row : tie.Need-cast-row
+cast-row c = search needs
+
+row-requires : tie.Need-row-requires
+row-requires c κs = search needs
+
+of-bytes-requires : tie.Need-of-bytes-requires
+of-bytes-requires c κs = search needs
+
+meets-requires : tie.Need-meets-requires
+meets-requires c κs = search needs
+
+reach-beyond-requires : tie.Need-reach-beyond-requires
+reach-beyond-requires c κs = search needs
 
 step-on-requires : tie.Need-step-on-requires
 step-on-requires c κs = search needs
 
 visit-targets-requires : tie.Need-visit-targets-requires
-visit-targets-requires c κs = search needs
+visit-targets-requires c κs =
+    let s = c .before .before .before .before .before .before .before .before .before .before .before .before .before .before .before .before .before .before .before .before in
+    let k = c .before .before .before .before .step-on .ensures in (
+      s .pre .0,
+      s .pre .1,
+      omega (arith, k .0 .0, s .pre .2),
+      omega (arith, k .0 .1, s .pre .3, s .pre .4),
+      s .pre .7,
+      k .1 .1 .0,
+      k .1 .1 .1,
+    )
 
 same-length : tie.Need-same-length
 same-length c = search needs
@@ -38,12 +65,16 @@ same-length-3 c = search needs
 
 returns-2 : tie.Need-returns-2
 returns-2 c =
-    let a = c .before .before .before .before .before .before .before .before .before .before .before .before .before .before .before
-    .before .before .before .before .before .before .args in
-    let k = c .before .before .before .before .before .before .before .before .before .before .before .step-on in
+    let s = c .before .before .before .before .before .before .before .before .before .before .before .before .before .before .before .before .before .before .before .before .before .before .before .before .before .before .before in
+    let a = s .args in
+    let h = c .before .before .before .before .before .before .before .before .before .before .before in
+    let k = h .step-on in
     let v = c .before .before .before .before .before .before .visit-targets in (
-      letter-done (a .rules) (a .lefts .now) (a .rights .now) (a .v) (a .letter) (a .p) (a .work .now) (a .n)
-          (k .result) (k .ensures .0 .1) (k .ensures .1) (v .last .1 .1 .0) (v .result) (v .ensures .0),
+      letter-done (a .rules) (a .lefts .now) (a .masks .now) (a .v) (a .letter) (a .p) (a .work .now) (a .n)
+          (k .result) (k .ensures .0 .1) (s .pre .3) _ _
+          (flags-needed (a .lefts .now) (a .rules .left) (a .v .left) (a .letter) _ _ _ _
+          (h .before .before .before .before .before .before .row .ensures) (h .before .before .before .before .of-bytes .ensures) (h .before .before .before .meets .ensures) (h .before .before .reach-beyond .ensures))
+          (k .ensures .1 .0) (v .last .1 .1 .0) (v .result) (v .ensures .0),
       v .ensures .1,
     )
 
@@ -54,6 +85,11 @@ visit-letter-spec =
     cast-next-target
     next-target-requires
     returns
+    cast-row
+    row-requires
+    of-bytes-requires
+    meets-requires
+    reach-beyond-requires
     step-on-requires
     visit-targets-requires
     same-length

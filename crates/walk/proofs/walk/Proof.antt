@@ -20,6 +20,9 @@ rules-of-requires c κs = search needs
 initial-vertex-requires : tie.Need-initial-vertex-requires
 initial-vertex-requires c κs = search needs
 
+counters-hash-requires : tie.Need-counters-hash-requires
+counters-hash-requires c κs = search needs
+
 slice-aggregate-visit : tie.Need-slice-aggregate-visit
 slice-aggregate-visit c = search needs
 
@@ -29,11 +32,12 @@ slice-aggregate-visit-2 c = search needs
 visit-requires : tie.Need-visit-requires
 unfolding initialVertex
 visit-requires c κs =
-    let s = c .before .before .before .before .before .before .before .before in (
+    let s = c .before .before .before .before .before .before .before .before .before in (
       ready-none (s .args .work .now) _ _ (index-none (s .args .work .now)),
-      subst (λ (v : Vertex). v .left < maxStates) (sym (c .before .before .before .initial-vertex .ensures))
+      subst (λ (v : Vertex). v .left < maxStates) (sym (c .before .before .before .before .before .before .initial-vertex .ensures))
           (omega (arith, s .pre .0 .initial-below, s .pre .0 .few-states)),
       omega arith,
+      c .before .before .before .before .counters-hash .ensures,
     )
 
 enum-known-seen : tie.Need-enum-known-seen
@@ -46,12 +50,21 @@ returns : tie.Need-returns
 returns c =
     let w = c .before .before .before .before .before in
     let v = w .visit in
-    let i = w .before .before .before .before .initial-vertex in
-    let a = w .before .before .before .before .before .before .before .before .before .args in
+    let i = w .before .before .before .before .before .before .before .initial-vertex in
+    let a = w .before .before .before .before .before .before .before .before .before .before .args in
     let d =
-    walk-stop (a .left) (a .right) (a .bound) (i .result) (i .ensures) (a .work .now) (v .last .0) (v .result) (v .ensures .0)
+    walk-stop (a .t1) (a .t2) (a .bound) (i .result) (i .ensures) (a .work .now) (v .last .0) (v .result) (v .ensures .0)
     (other-stops (v .result) (c .match .keys2)) in
     (d .answer, d .bytes)
+
+slice-aggregate-fill : tie.Need-slice-aggregate-fill
+slice-aggregate-fill c = search needs
+
+fill-requires : tie.Need-fill-requires
+fill-requires c κs = let p = c .before .before .before .before .before .before .before .before .before .before .before .before .before .before .before .before .before .before .before .before .pre in (p .1 .few-states, p .0 .few-letters, omega arith)
+
+least-members-requires : tie.Need-least-members-requires
+least-members-requires c κs = search needs
 
 slice-aggregate-turns : tie.Need-slice-aggregate-turns
 slice-aggregate-turns c = search needs
@@ -61,15 +74,14 @@ slice-aggregate-turns-2 c = search needs
 
 turns-requires : tie.Need-turns-requires
 turns-requires c κs =
-    let w = c .before .before .before .before .before .before .before .before .before .before .before .before in
-    let g = c .before .before .before .before .before .before .seen .given .1 in (
+    let w = c .before .before .before .before .before .before .before .before .before .before .before .before .before .before .before .before .before .before .before .before in
+    let g = c .before .before .before .before .before .before .before .before .before .before .before .before .before .before .seen .given .1 in
+    let e = w .before .before .before .before .before .before .before .before .rules-of .ensures in
+    let s = w .before .before .before .before .before .before .before .before .before .before in (
       rw g at (w .visit .ensures .1),
-      omega (
-        arith,
-        w .before .before .before .before .before .rules-of .ensures .0,
-        w .before .before
-            .before .before .before .before .before .before .before .pre .0 .few-letters,
-      ),
+      omega (arith, e .0, s .pre .0 .few-letters),
+      omega (arith, e .1, s .pre .1 .few-states),
+      c .before .before .before .before .before .before .before .least-members .ensures,
     )
 
 same-length-2 : tie.Need-same-length-2
@@ -77,26 +89,26 @@ same-length-2 c = search needs
 
 returns-2 : tie.Need-returns-2
 returns-2 c =
-    let w = c .before .before .before .before .before .before .before .before .before .before .before .before .before .before .before
-    .before .before in
+    let w = c .before .before .before .before .before .before .before .before .before .before .before .before .before .before .before .before .before .before .before .before .before .before .before .before .before in
     let v = w .visit in
-    let i = w .before .before .before .before .initial-vertex in
-    let rules = w .before .before .before .before .before .rules-of in
+    let i = w .before .before .before .before .before .before .before .initial-vertex in
+    let rules = w .before .before .before .before .before .before .before .before .rules-of in
     let e = rules .ensures in
-    let s = w .before .before .before .before .before .before .before .before .before in
+    let s = w .before .before .before .before .before .before .before .before .before .before in
     let a = s .args in
     let t = c .before .before .before .before .turns in
-    let R : RulesOf (rules .result) (a .left .transitions) (a .right .transitions) (a .left) (a .right) (a .bound) =
+    let f = c .before .before .before .before .before .before .before .before .before .before .before .before .before .before .fill in
+    let R : RulesOf (rules .result) (a .t1 .transitions) (f .last .0) (a .t1) (a .t2) (a .bound) =
     record {
       letters-are = e .0;
-      top-is = e .1;
-      left = record { accepting-is = e .2; transitions-are = refl; in-range = s .pre .0 };
-      right = record { accepting-is = e .3; transitions-are = refl; in-range = s .pre .1 };
+      top-is = e .2;
+      left = record { accepting-is = e .3; transitions-are = refl; in-range = s .pre .0 };
+      right = record { accepting-is = e .4; states-are = e .1; masks-are = λ a p r h k i. f .ensures a p r (omega (arith, e .0)) (omega (arith, e .1)) i; in-range = s .pre .1 };
     } in
     let d =
-    walk-on (a .left) (a .right) (a .bound) (i .result) (i .ensures) (a .work .now) (v .last .0) (v .result) (v .ensures .0) _
-    (c .before .before .before .before .before .before .before .before .before .before .before .seen .given .1) (rules .result)
-    (a .left .transitions) (a .right .transitions) R (t .last .1 .1 .1 .0) (t .result) (t .ensures) in
+    walk-on (a .t1) (a .t2) (a .bound) (i .result) (i .ensures) (a .work .now) (v .last .0) (v .result) (v .ensures .0) _
+    (c .before .before .before .before .before .before .before .before .before .before .before .before .before .before .before .before .before .before .before .seen .given .1) (rules .result)
+    (a .t1 .transitions) (f .last .0) R (t .last .1 .1 .1 .0) (t .result) (t .ensures) in
     (d .answer, d .bytes)
 
 pub walk-spec : {M : Type 1} → statement M
@@ -105,12 +117,16 @@ walk-spec =
     (tie.spec
     rules-of-requires
     initial-vertex-requires
+    counters-hash-requires
     slice-aggregate-visit
     slice-aggregate-visit-2
     visit-requires
     enum-known-seen
     same-length
     returns
+    slice-aggregate-fill
+    fill-requires
+    least-members-requires
     slice-aggregate-turns
     slice-aggregate-turns-2
     turns-requires

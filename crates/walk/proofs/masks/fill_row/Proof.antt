@@ -1,0 +1,80 @@
+-- `walk::masks::fill_row` meets its contract: after r turns the masks of the targets below r are written. Assumes nothing.
+use mathlib.Core.Path.{_≡_, refl}
+use Prim.Native.Nat.{_+_, _*_, _-_, _≤_}
+use native.Mathlib.Omega.{arith}
+use borrow.Author.Needs.{needs}
+use lib.ListN.{length}
+use Rattle.walk.proofs.MaskRows.{RowSoFar, row-none, row-next}
+use Rattle.walk.proofs.masks.fill_row.Statement.{statement}
+use Rattle.walk.proofs.masks.fill_row.Tie as tie
+
+abbrev Inv-loop : tie.InvT-loop
+Inv-loop masks₀ transitions p letter at r₀ masks r = (r ≤ 32) × (at ≡ (letter * 32 + p) * 32) × (at + 32 ≤ length masks₀)
+    × RowSoFar transitions p letter at masks₀ masks r
+
+abbrev μ-loop : tie.MeasureT-loop
+μ-loop masks₀ transitions p letter at r₀ masks r = 32 - r
+
+mul-at : tie.Need-mul-at Inv-loop μ-loop
+mul-at c = search needs
+
+add-at : tie.Need-add-at Inv-loop μ-loop
+add-at c = search needs
+
+mul-at-2 : tie.Need-mul-at-2 Inv-loop μ-loop
+mul-at-2 c = search needs
+
+loop-holds : tie.Need-loop-holds Inv-loop μ-loop
+loop-holds c = (search needs, refl, search needs, row-none _ _ _ _ _)
+
+transition-in-requires : tie.Need-transition-in-requires Inv-loop μ-loop
+transition-in-requires c κs = search needs
+
+mask-requires : tie.Need-mask-requires Inv-loop μ-loop
+mask-requires c κs = search needs
+
+add-masks : tie.Need-add-masks Inv-loop μ-loop
+add-masks c = search needs
+
+slice-write-masks : tie.Need-slice-write-masks Inv-loop μ-loop
+slice-write-masks c = search needs
+
+add-r : tie.Need-add-r Inv-loop μ-loop
+add-r c = search needs
+
+loop-less : tie.Need-loop-less Inv-loop μ-loop
+loop-less c = search needs
+
+loop-again : tie.Need-loop-again Inv-loop μ-loop
+loop-again c =
+    let l = c .before .before .before .loop in
+    let y = c .before .transition-in .ensures in
+    (search needs, refl, l .inv .2, row-next _ _ _ _ _ _ (l .r) _ (l .inv .3) (omega arith) (rw (← y) (c .mask .ensures)))
+
+same-length : tie.Need-same-length Inv-loop μ-loop
+same-length c = c .before .loop .inv .3 .long
+
+returns : tie.Need-returns Inv-loop μ-loop
+returns c =
+    let l = c .before .loop in
+    (λ r h. l .inv .3 .row r (omega arith), l .inv .3 .same)
+
+pub fill-row-spec : {M : Type 1} → statement M
+fill-row-spec =
+    tie.close
+    (tie.spec
+    Inv-loop
+    μ-loop
+    mul-at
+    add-at
+    mul-at-2
+    loop-holds
+    transition-in-requires
+    mask-requires
+    add-masks
+    slice-write-masks
+    add-r
+    loop-less
+    loop-again
+    same-length
+    returns)
