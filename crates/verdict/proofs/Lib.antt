@@ -2,5 +2,6 @@
 pub mod StateSets
 pub mod LoopRuns
 pub mod VerdictTheorem
+pub mod Pairs
 pub mod WordSets
 pub mod WordVerdict

@@ -119,7 +119,7 @@ module _ (A : Automaton) (u v : List ℕ) where
         from = r .0;
         before = reaches-sound A v (p .0) (r .0) (p .1) (r .1) (t₂ .0);
         to = s .0;
-        visit = loopVisits-sound A v (r .0) (s .0) (r .1) (t₃ .0);
+        visit = loopVisits-sound A v (r .0) (s .0) (r .1) (s .1) (t₃ .0);
         back = reaches-sound A v (s .0) (r .0) (s .1) (r .1) (t₃ .1);
       }
 
@@ -132,7 +132,7 @@ module _ (A : Automaton) (u v : List ℕ) where
       let t₁ : T (inSet ends (f .state)) = onWord-complete A (only A (A .initial)) (only-has A (A .initial) h) (f .stem .1) in
       let t₂ : T (goesBack (f .from) (f .to)) =
       both-and (related (loopVisits A v) (f .from) (f .to)) (reaches joined (f .to) (f .from))
-      (loopVisits-complete A v (f .from) (f .to) hr (f .visit)) (reaches-complete A v (f .to) (f .from) hs hr (f .back)) in
+      (loopVisits-complete A v (f .from) (f .to) hr hs (f .visit)) (reaches-complete A v (f .to) (f .from) hs hr (f .back)) in
       let t₃ : T (turnsAt (f .state) (f .from)) =
       both-and (reaches joined (f .state) (f .from)) (some (goesBack (f .from)) (A .states) 0)
       (reaches-complete A v (f .state) (f .from) hp hr (f .before)) (some-at _ (A .states) (f .to) hs t₂) in

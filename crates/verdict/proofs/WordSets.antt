@@ -1,116 +1,173 @@
--- Sets of states as words: one letter, a word and the loop word, as the verdict has them of lists of tests. A table is told by its tests,
--- so each set is compared state by state. Assumes nothing.
-use mathlib.Core.Path.{_≡_, sym, ap, ap₂, subst, _∙_}
+-- Sets of states and pairs as words: one letter of the stem, a word, and one letter in front of the loop word. A table is told by its
+-- tests, so each set is compared state by state. Assumes nothing.
+use mathlib.Core.Path.{_≡_, refl, sym, ap, ap₂, subst, _∙_}
 use mathlib.Core.Bool.{Bool, false, _&&_, _||_}
-use mathlib.Core.List.{List, []}
-use Prim.Native.Nat.{ℕ, _+_, _≤_, _<_}
+use mathlib.Core.List.{List, [], _∷_}
+use Prim.Native.Nat.{ℕ, _+_, _*_, _-_, _≤_, _<_}
+use native.Mathlib.Nat.{zero-add}
 use native.Mathlib.Numerals.{add-one}
 use native.Mathlib.Omega.{arith}
-use lib.Dec.{T}
+use lib.Dec.{T, eqb}
 use lib.ListN.{length, getD, drop}
 use lib.Seq.{drop-cons, drop-length}
+use borrow.Author.Tests.{ne-eqb}
 use Rattle.automaton.specs.declared.Automaton.{Automaton}
 use Rattle.automaton.specs.Ranges.{some, table}
 use Rattle.automaton.specs.Sets.{bit}
-use Rattle.automaton.specs.Automata.{accepts, transition, transitionBit}
+use Rattle.automaton.specs.Automata.{accepts, transition, transitionBit, InRange}
 use Rattle.automaton.specs.Members.{transitionIn}
-use Rattle.sets.specs.Closure.{holdsRow}
-use Rattle.verdict.specs.Verdict.{inSet, onLetter, onWord, metBy, metOnWord}
-use Rattle.verdict.specs.Words.{setOf, Held, HeldAccepting, TurnedOn}
-use Rattle.automaton.proofs.Tests.{both-and, same-test, not-T-false}
-use Rattle.automaton.proofs.Ranges.{table-at}
-use Rattle.automaton.proofs.Transitions.{transition-parts, transition-on}
-use Rattle.sets.proofs.Rows.{table-same, some-same}
+use Rattle.sets.specs.Closure.{related, holdsRow}
+use Rattle.verdict.specs.Verdict.{inSet, onLetter, onWord, loopRuns, loopVisits}
+use Rattle.unions.specs.Unions.{chosen, groupsFor}
+use Rattle.verdict.specs.Words.{setOf, HeldRows, HeldAccepting, Met, Turned}
+use Rattle.automaton.proofs.Tests.{and-both, both-and, same-test, not-T-false}
+use Rattle.automaton.proofs.Bits.{bit-zero}
+use Rattle.automaton.proofs.Ranges.{table-at, some-below}
+use Rattle.automaton.proofs.Transitions.{transition-parts, transition-from, transition-on, transition-into}
 use Rattle.automaton.proofs.InRange.{inHeader, in-header-iff}
+use Rattle.sets.proofs.Closure.{related-relation}
+use Rattle.sets.proofs.Rows.{table-same, some-same, some-cut}
+use Rattle.unions.proofs.UnionTables.{groups-enough}
 
--- The bytes of an automaton in range.
+-- The rows of an automaton in range.
 
-module _ (A : Automaton) (n : ℕ) (t : List ℕ) (h : Held A n t) where
-  bit-transition : (p a q : ℕ) → p < n → a < 16 → q < n → T (transitionBit A p a q) → T (transition A p a q)
-  unfolding transition
-  bit-transition p a q hp ha hq s =
+pub rows-held : (A : Automaton) → InRange A → (rows : List ℕ)
+    → ((a p q : ℕ) → a < A .letters → p < 32 → q < 32 → holdsRow rows (a * 32 + p) q ≡ transitionIn (A .transitions) p a q)
+    → HeldRows A (A .states) (A .letters) rows
+unfolding transition
+rows-held A r rows e =
+    record { in-range = r; states = refl; letters = refl; targets = λ a p q ha hp hq. e a p q ha hp hq ∙ same a p q ha hp hq }
+  where
+    same : (a p q : ℕ) → a < A .letters → p < 32 → q < 32 → transitionBit A p a q ≡ transition A p a q
+    same a p q ha hp hq =
+        let few = r .few-letters in
+        same-test (transitionBit A p a q) (transition A p a q)
+        (λ s. both-and (inHeader A p a q) (transitionBit A p a q)
+        (in-header-iff A p a q .1 (r .transitions-in p a q hp (omega arith) hq s)) s)
+        (λ s. transition-parts A p a q s .3)
+
+module _ (A : Automaton) (n k : ℕ) (rows : List ℕ) (h : HeldRows A n k rows) where
+  pub no-letter : (p a q : ℕ) → k ≤ a → transition A p a q ≡ false
+  no-letter p a q l = not-T-false (transition A p a q) (λ s. let e = h .letters in omega (arith, transition-on A p a q s))
+
+  no-source : (p a q : ℕ) → n ≤ p → transition A p a q ≡ false
+  no-source p a q l = not-T-false (transition A p a q) (λ s. let e = h .states in omega (arith, transition-from A p a q s))
+
+  no-target : (p a q : ℕ) → n ≤ q → transition A p a q ≡ false
+  no-target p a q l = not-T-false (transition A p a q) (λ s. let e = h .states in omega (arith, transition-into A p a q s))
+
+  groups : (groupsFor n ≤ 8) × (n ≤ groupsFor n * 4)
+  groups =
       let few = h .in-range .few-states in
       let e = h .states in
-      both-and (inHeader A p a q) (transitionBit A p a q)
-      (in-header-iff A p a q .1 (h .in-range .transitions-in p a q (omega arith) ha (omega arith) s)) s
+      groups-enough n (omega arith)
 
-  pub held-transition : (p a q : ℕ) → p < n → a < 16 → q < n → transitionIn t p a q ≡ transition A p a q
-  held-transition p a q hp ha hq =
-      subst (λ (l : List ℕ). transitionIn l p a q ≡ transition A p a q) (h .transitions)
-      (same-test (transitionBit A p a q) (transition A p a q) (bit-transition p a q hp ha hq) (λ s. transition-parts A p a q s .3))
+  -- the values of the targets of p, chosen by a word that has the targets
+  pub targets-choose : (p a choice : ℕ) → ((t : ℕ) → t < 32 → bit choice t ≡ transition A p a t) → (values : List ℕ) (x : ℕ)
+      → chosen values 0 (groupsFor n * 4) choice x ≡ some (λ t. transition A p a t && holdsRow values t x) n 0
+  targets-choose p a choice e values x =
+      some-same _ (λ t. transition A p a t && holdsRow values t x) (groupsFor n * 4)
+      (λ t l. ap₂ (λ (b : Bool) (i : ℕ). b && bit (getD values i 0) x) (e t (omega (arith, groups .0))) (zero-add t))
+      ∙ some-cut _ (λ t. transition A p a t && holdsRow values t x) n (groupsFor n * 4) (groups .1) (λ t l. refl)
+      (λ t l. ap (λ (b : Bool). b && holdsRow values t x) (no-target p a t l))
 
-  pub no-letter : (p a q : ℕ) → 16 ≤ a → transition A p a q ≡ false
-  no-letter p a q ha =
-      not-T-false (transition A p a q) (λ s. let few = h .in-range .few-letters in omega (arith, transition-on A p a q s))
+  -- One letter of the stem.
 
--- One letter: the rows have the transitions on letter a.
+  -- a transition on a leads from a state of the set to q
+  abbrev leads : ℕ → ℕ → ℕ → ℕ → Bool
+  leads w a q p = inSet (setOf n w) p && transition A p a q
 
-module _ (A : Automaton) (n a : ℕ) (states : A .states ≡ n) (rows : List ℕ)
-    (on-a : (p q : ℕ) → p < n → q < n → holdsRow rows p q ≡ transition A p a q) where
-  -- the rows relate a state of w to q
-  abbrev spreads : ℕ → ℕ → Bool
-  spreads w q = some (λ p. bit w p && holdsRow rows p q) n 0
-
-  -- a transition on a leads from a state of w to q
-  abbrev leads : ℕ → ℕ → Bool
-  leads w q = some (λ p. inSet (setOf n w) p && transition A p a q) (A .states) 0
-
-  spreads-leads : (w q : ℕ) → q < n → spreads w q ≡ leads w q
-  spreads-leads w q h =
-      some-same (λ p. bit w p && holdsRow rows p q) (λ p. inSet (setOf n w) p && transition A p a q) n
-      (λ p l. ap₂ _&&_ (sym (table-at (bit w) n p false l)) (on-a p q l h))
-      ∙ ap (λ (m : ℕ). some (λ p. inSet (setOf n w) p && transition A p a q) m 0) (sym states)
-
-  pub letter-set : (w r : ℕ) → ((q : ℕ) → bit r q ≡ spreads w q) → setOf n r ≡ onLetter A (setOf n w) a
+  letter-same : (w a r : ℕ) → ((q : ℕ) → q < n → bit r q ≡ some (leads w a q) n 0) → setOf n r ≡ onLetter A (setOf n w) a
   unfolding onLetter
-  letter-set w r e =
-      table-same (bit r) (leads w) n (λ q h. e q ∙ spreads-leads w q h) ∙ ap (λ (m : ℕ). table (leads w) m 0) (sym states)
+  letter-same w a r e =
+      table-same (bit r) (λ q. some (leads w a q) n 0) n e
+      ∙ ap (λ (m : ℕ). table (λ q. some (leads w a q) m 0) m 0) (sym (h .states))
 
-  letter-at : (w q : ℕ) → q < n → inSet (onLetter A (setOf n w) a) q ≡ spreads w q
-  unfolding onLetter
-  letter-at w q h = table-at (leads w) (A .states) q false (omega arith) ∙ sym (spreads-leads w q h)
+  pub letter-none : (w a : ℕ) → k ≤ a → setOf n 0 ≡ onLetter A (setOf n w) a
+  letter-none w a l =
+      letter-same w a 0 (λ q hq. bit-zero q ∙ sym (not-T-false (some (leads w a q) n 0)
+      (λ t. let s = some-below (leads w a q) n t in
+      let b = and-both (inSet (setOf n w) (s .0)) (transition A (s .0) a q) (s .2) in
+      subst T (no-letter (s .0) a q l) (b .1))))
 
-  pub turned-on : (accepting run visit run′ visit′ : ℕ) → HeldAccepting A accepting
-      → ((q : ℕ) → bit run′ q ≡ spreads run q)
-      → ((q : ℕ) → bit visit′ q ≡ (spreads visit q || (spreads run q && bit accepting q)))
-      → TurnedOn A n a run visit run′ visit′
-  unfolding metBy
-  turned-on accepting run visit run′ visit′ held r v =
+  pub letter-chosen : (w a r : ℕ) → a < k → ((q : ℕ) → bit r q ≡ chosen rows (a * 32) (groupsFor n * 4) w q)
+      → setOf n r ≡ onLetter A (setOf n w) a
+  letter-chosen w a r l e = letter-same w a r at
+    where
+      none : (p q : ℕ) → n ≤ p → (bit w p && transition A p a q) ≡ false
+      none p q hp =
+          not-T-false (bit w p && transition A p a q)
+          (λ t. subst T (no-source p a q hp) (and-both (bit w p) (transition A p a q) t .1))
+
+      at : (q : ℕ) → q < n → bit r q ≡ some (leads w a q) n 0
+      at q hq =
+          let m = h .in-range .few-states in
+          let s = h .states in
+          e q
+          ∙ some-same _ (λ p. bit w p && transition A p a q) (groupsFor n * 4)
+          (λ p hp. ap (λ (b : Bool). bit w p && b) (h .targets a p q l (omega (arith, groups .0)) (omega arith)))
+          ∙ some-cut _ (leads w a q) n (groupsFor n * 4) (groups .1)
+          (λ p hp. ap (λ (b : Bool). b && transition A p a q) (sym (table-at (bit w) n p false hp))) (λ p hp. none p q hp)
+
+  -- One letter in front of the loop word.
+
+  pub turned-begins : (pairs : List ℕ) → ((p q : ℕ) → p < n → holdsRow pairs p q ≡ eqb p q) → Turned A n [] pairs
+  unfolding loopRuns loopVisits
+  turned-begins pairs e =
+      let m = h .in-range .few-states in
+      let s = h .states in
       record {
-        runs = letter-set run run′ r;
-        visits = table-same (bit visit′) met n (λ q h. v q ∙ met-at q h) ∙ ap (λ (m : ℕ). table met m 0) (sym states);
+        runs = λ p q hp hq. e p q hp ∙ sym (related-relation (A .states) eqb p q (omega arith) (omega arith));
+        visits = λ p q hp hq. e p (32 + q) hp ∙ ne-eqb p (32 + q) (λ z. omega arith)
+            ∙ sym (related-relation (A .states) (λ x y. false) p q (omega arith) (omega arith));
+      }
+
+  pub turned-on : (a accepting : ℕ) (v pairs after pairs′ : List ℕ) → HeldAccepting A accepting → Turned A n v pairs
+      → Met n accepting pairs after
+      → ((p x : ℕ) → p < n → holdsRow pairs′ p x ≡ some (λ t. transition A p a t && holdsRow after t x) n 0)
+      → Turned A n (a ∷ v) pairs′
+  unfolding loopRuns loopVisits
+  turned-on a accepting v pairs after pairs′ held t m e =
+      let few = h .in-range .few-states in
+      let s = h .states in
+      record {
+        runs = λ p q hp hq. e p q hp
+            ∙ some-same _ (run p q) n (λ x l. ap (λ (b : Bool). transition A p a x && b)
+            (m .runs x q l (omega arith) ∙ t .runs x q l hq))
+            ∙ ap (λ (j : ℕ). some (run p q) j 0) (sym s)
+            ∙ sym (related-relation (A .states) (λ y z. some (run y z) (A .states) 0) p q (omega arith) (omega arith));
+        visits = λ p q hp hq. e p (32 + q) hp
+            ∙ some-same _ (visit p q) n (λ x l. ap (λ (b : Bool). transition A p a x && b)
+            (m .visits x q l (omega arith)
+            ∙ ap₂ _||_ (t .visits x q l hq) (ap₂ _&&_ (held x (omega arith)) (t .runs x q l hq))))
+            ∙ ap (λ (j : ℕ). some (visit p q) j 0) (sym s)
+            ∙ sym (related-relation (A .states) (λ y z. some (visit y z) (A .states) 0) p q (omega arith) (omega arith));
       }
     where
-      met : ℕ → Bool
-      met q = inSet (onLetter A (setOf n visit) a) q || (inSet (onLetter A (setOf n run) a) q && accepts A q)
+      run : ℕ → ℕ → ℕ → Bool
+      run p q x = transition A p a x && related (loopRuns A v) x q
 
-      met-at : (q : ℕ) → q < n → (spreads visit q || (spreads run q && bit accepting q)) ≡ met q
-      met-at q h =
-          let x = letter-at visit q h in
-          let y = letter-at run q h in
-          let z = held q (omega arith) in
-          cc
+      visit : ℕ → ℕ → ℕ → Bool
+      visit p q x = transition A p a x && (related (loopVisits A v) x q || (accepts A x && related (loopRuns A v) x q))
 
 -- A word, letter by letter.
 
-module _ (A : Automaton) (w : List ℕ) (i : ℕ) where
-  drop-end : i ≡ length w → drop i w ≡ []
-  drop-end e = ap (λ (k : ℕ). drop k w) e ∙ drop-length w
+drop-step : (w : List ℕ) (i : ℕ) → i < length w → getD w i 0 ∷ drop (i + 1) w ≡ drop i w
+drop-step w i h = rw (add-one i, drop-cons w i 0)
 
+pub drop-back : (w : List ℕ) (i : ℕ) → 0 < i → i ≤ length w → getD w (i - 1) 0 ∷ drop i w ≡ drop (i - 1) w
+drop-back w i h l =
+    let e : i ≡ i - 1 + 1 = omega arith in
+    ap (λ (k : ℕ). getD w (i - 1) 0 ∷ drop k w) e ∙ drop-step w (i - 1) (omega arith)
+
+pub drop-end : (w : List ℕ) (i : ℕ) → i ≡ length w → drop i w ≡ []
+drop-end w i e = ap (λ (k : ℕ). drop k w) e ∙ drop-length w
+
+module _ (A : Automaton) (w : List ℕ) (i : ℕ) where
   pub on-word-step : (S : List Bool) → i < length w → onWord A (onLetter A S (getD w i 0)) (drop (i + 1) w) ≡ onWord A S (drop i w)
   unfolding onWord
-  on-word-step S h = rw (add-one i, drop-cons w i 0)
+  on-word-step S h = ap (onWord A S) (drop-step w i h)
 
   pub on-word-end : (S : List Bool) → i ≡ length w → onWord A S (drop i w) ≡ S
   unfolding onWord
-  on-word-end S e = ap (onWord A S) (drop-end e)
-
-  pub met-step : (S M : List Bool) → i < length w
-      → (let next = onLetter A S (getD w i 0) in metOnWord A next (metBy A next (onLetter A M (getD w i 0))) (drop (i + 1) w))
-      ≡ metOnWord A S M (drop i w)
-  unfolding metOnWord
-  met-step S M h = rw (add-one i, drop-cons w i 0)
-
-  pub met-end : (S M : List Bool) → i ≡ length w → metOnWord A S M (drop i w) ≡ M
-  unfolding metOnWord
-  met-end S M e = ap (metOnWord A S M) (drop-end e)
+  on-word-end S e = ap (onWord A S) (drop-end w i e)

@@ -3,7 +3,8 @@
 --   only p           the set of p alone
 --   onLetter S a     the states that a transition on letter a reaches from a state of S
 --   onWord S w       the states that a run on w reaches from a state of S
---   metOnWord S M w  those reached by a run that started in M, or started in S and met an accepting state after its first
+--   loopRuns v       the relation of p and q where a run on v goes from p to q
+--   loopVisits v     the same of runs that meet an accepting state after their first
 --   accepted u v     u leads from the initial state to some p, copies of v lead from p to some r, a run on v from r to some s
 --                    meets an accepting state, and copies of v lead from s back to r
 -- Assumes nothing.
@@ -15,7 +16,7 @@ use lib.ListN.{getD}
 use Rattle.automaton.specs.declared.Automaton.{Automaton}
 use Rattle.automaton.specs.Ranges.{some, table}
 use Rattle.automaton.specs.Automata.{accepts, transition}
-use Rattle.sets.specs.Closure.{related, closure, reaches}
+use Rattle.sets.specs.Closure.{related, relation, closure, reaches}
 
 abbrev pub inSet : List Bool → ℕ → Bool
 inSet S q = getD S q false
@@ -31,21 +32,18 @@ module _ (A : Automaton) where
   onWord S [] = S
   onWord S (a ∷ w) = onWord (onLetter S a) w
 
-  -- the states of M, and the accepting states of S
-  unfoldable pub metBy : List Bool → List Bool → List Bool
-  metBy S M = table (λ r. inSet M r || (inSet S r && accepts A r)) (A .states) 0
-
-  unfoldable pub metOnWord : List Bool → List Bool → List ℕ → List Bool
-  metOnWord S M [] = M
-  metOnWord S M (a ∷ w) = let next = onLetter S a in metOnWord next (metBy next (onLetter M a)) w
-
-  -- row p has the states that a run on v reaches from p
   unfoldable pub loopRuns : List ℕ → List (List Bool)
-  loopRuns v = table (λ p. onWord (only p) v) (A .states) 0
+  loopRuns [] = relation (A .states) eqb
+  loopRuns (a ∷ v) =
+      let R = loopRuns v in
+      relation (A .states) (λ p q. some (λ t. transition A p a t && related R t q) (A .states) 0)
 
-  -- row p has those that it reaches meeting an accepting state after the first
   unfoldable pub loopVisits : List ℕ → List (List Bool)
-  loopVisits v = table (λ p. metOnWord (only p) [] v) (A .states) 0
+  loopVisits [] = relation (A .states) (λ p q. false)
+  loopVisits (a ∷ v) =
+      let R = loopRuns v in
+      let M = loopVisits v in
+      relation (A .states) (λ p q. some (λ t. transition A p a t && (related M t q || (accepts A t && related R t q))) (A .states) 0)
 
   unfoldable pub accepted : List ℕ → List ℕ → Bool
   accepted u v =

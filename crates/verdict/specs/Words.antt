@@ -1,46 +1,51 @@
--- How the code holds what the verdict computes with: sets of states as words, and an automaton as its number of states and its bytes.
---   setOf n w          the set of the states below n that the word w has
---   row rows p         the word in row p
---   Held A n t         A is in range, it has n states, and t are the bytes of its transitions
---   HeldAccepting A w  the word w has the accepting states of A
---   Turned A n v run visit run′ visit′   from the states of run, and of visit, the loop word v leads to those of run′, and by way of an
---                      accepting state to those of visit′; TurnedOn is the same for one letter
+-- How the code holds what the verdict computes with: sets of states as words, and an automaton as its numbers of states and letters and
+-- the rows of its letters. A pair of a state has the ends of its runs on a word in bits 0 to 31, and those of its visits in bits 32 to 63.
+--   setOf n w                the set of the states below n that the word w has
+--   HeldRows A n k rows      A is in range, it has n states and k letters, and row a * 32 + p has the targets of p on letter a
+--   HeldUnions A n k t       t has, for each letter of A, the unions of the choices of its rows
+--   HeldAccepting A w        the word w has the accepting states of A
+--   Met n w pairs pairs′     pairs′ are the pairs with every run of a state of w a visit besides
+--   Turned A n v pairs       pairs are the pairs of the n states for the word v
 --   comesBack n runs visits r      the rows visits lead from r to some state that the rows runs lead back to r from
 --   turnsFrom n runs visits ends   the rows runs lead from a state of ends to some state that comes back
 -- Assumes nothing.
 use mathlib.Core.Path.{_≡_}
-use mathlib.Core.Bool.{Bool, _&&_}
+use mathlib.Core.Bool.{Bool, _&&_, _||_}
 use mathlib.Core.List.{List}
-use Prim.Native.Nat.{ℕ, _<_}
-use lib.ListN.{getD}
+use Prim.Native.Nat.{ℕ, _+_, _*_, _<_}
 use Rattle.automaton.specs.declared.Automaton.{Automaton}
 use Rattle.automaton.specs.Ranges.{some, table}
 use Rattle.automaton.specs.Sets.{bit}
-use Rattle.automaton.specs.Automata.{accepts, InRange}
-use Rattle.sets.specs.Closure.{holdsRow}
-use Rattle.verdict.specs.Verdict.{onLetter, onWord, metBy, metOnWord}
+use Rattle.automaton.specs.Automata.{accepts, transition, InRange}
+use Rattle.sets.specs.Closure.{related, holdsRow}
+use Rattle.verdict.specs.Verdict.{loopRuns, loopVisits}
+use Rattle.unions.specs.Unions.{Unions, groupsFor}
 
 abbrev pub setOf : ℕ → ℕ → List Bool
 setOf n w = table (bit w) n 0
 
-abbrev pub row : List ℕ → ℕ → ℕ
-row rows p = getD rows p 0
-
-pub record Held (A : Automaton) (n : ℕ) (t : List ℕ) : Type 0 where
+pub record HeldRows (A : Automaton) (n k : ℕ) (rows : List ℕ) : Type 0 where
   pub in-range : InRange A
   pub states : A .states ≡ n
-  pub transitions : A .transitions ≡ t
+  pub letters : A .letters ≡ k
+  pub targets : (a p q : ℕ) → a < k → p < 32 → q < 32 → holdsRow rows (a * 32 + p) q ≡ transition A p a q
+
+pub record HeldUnions (A : Automaton) (n k : ℕ) (tables : List ℕ) : Type 0 where
+  pub rows : List ℕ
+  pub held : HeldRows A n k rows
+  pub unions : (a : ℕ) → a < k → Unions tables (a * 128) rows (a * 32) (groupsFor n)
 
 abbrev pub HeldAccepting : Automaton → ℕ → Type 0
 HeldAccepting A w = (q : ℕ) → q < A .states → bit w q ≡ accepts A q
 
-pub record TurnedOn (A : Automaton) (n a run visit run′ visit′ : ℕ) : Type 0 where
-  pub runs : setOf n run′ ≡ onLetter A (setOf n run) a
-  pub visits : setOf n visit′ ≡ metBy A (onLetter A (setOf n run) a) (onLetter A (setOf n visit) a)
+pub record Met (n accepting : ℕ) (pairs pairs′ : List ℕ) : Type 0 where
+  pub runs : (t q : ℕ) → t < n → q < 32 → holdsRow pairs′ t q ≡ holdsRow pairs t q
+  pub visits : (t q : ℕ) → t < n → q < 32
+      → holdsRow pairs′ t (32 + q) ≡ (holdsRow pairs t (32 + q) || (bit accepting t && holdsRow pairs t q))
 
-pub record Turned (A : Automaton) (n : ℕ) (v : List ℕ) (run visit run′ visit′ : ℕ) : Type 0 where
-  pub runs : setOf n run′ ≡ onWord A (setOf n run) v
-  pub visits : setOf n visit′ ≡ metOnWord A (setOf n run) (setOf n visit) v
+pub record Turned (A : Automaton) (n : ℕ) (v pairs : List ℕ) : Type 0 where
+  pub runs : (p q : ℕ) → p < n → q < n → holdsRow pairs p q ≡ related (loopRuns A v) p q
+  pub visits : (p q : ℕ) → p < n → q < n → holdsRow pairs p (32 + q) ≡ related (loopVisits A v) p q
 
 abbrev pub comesBack : ℕ → List ℕ → List ℕ → ℕ → Bool
 comesBack n runs visits r = some (λ s. holdsRow visits r s && holdsRow runs s r) n 0

@@ -3,139 +3,257 @@
 use automaton::Automaton;
 ghost use mathlib.Core.Path.{_≡_};
 ghost use mathlib.Core.Bool.{_&&_, _||_};
-ghost use Prim.Native.Nat.{ℕ, _<_, _≤_};
+ghost use mathlib.Core.List.{List, [], _∷_};
+ghost use Prim.Native.Nat.{ℕ, _+_, _*_, _<_, _≤_};
+ghost use lib.Dec.{eqb};
 ghost use lib.ListN.{length};
 ghost use Rattle.automaton.specs.declared.Automaton.{Automaton};
 ghost use Rattle.automaton.specs.Ranges.{some};
 ghost use Rattle.automaton.specs.Sets.{bit};
 ghost use Rattle.automaton.specs.Automata.{transition, InRange};
-ghost use Rattle.sets.specs.Closure.{holdsRow};
-ghost use Rattle.verdict.specs.Verdict.{onLetter, onWord, accepted};
-ghost use Rattle.verdict.specs.Words.{setOf, row, Held, HeldAccepting, TurnedOn, Turned, comesBack, turnsFrom};
+ghost use Rattle.automaton.specs.Members.{transitionIn};
+ghost use Rattle.sets.specs.Closure.{related, holdsRow};
+ghost use Rattle.verdict.specs.Verdict.{only, onLetter, onWord, loopRuns, loopVisits, accepted};
+ghost use Rattle.unions.specs.Unions.{Unions, groupsFor};
+ghost use Rattle.verdict.specs.Words.{setOf, HeldRows, HeldUnions, HeldAccepting, Met, Turned, comesBack, turnsFrom};
 
-// The targets of p on the letter; there are none where the letter is above 15.
-fn letter_row(transitions: &[u8; 2048], letter: u8, p: usize) -> u32
-    requires { ⌜ p < 32 ⌝ }
-    ensures { λ w. ⌜
-        ((A : Automaton) (n : ℕ) → Held A n (now (transitions .entry)) → p < n
-        → (q : ℕ) → q < n → bit w q ≡ transition A p letter q)
+// Row a * 32 + p becomes the targets of p on letter a.
+fn letter_rows(transitions: &[u8; 2048], letters: usize, rows: &mut [u64])
+    requires { ⌜ (letters ≤ 16) × (letters * 32 ≤ length (now rows)) ⌝ }
+    ensures { λ _. ⌜
+        ((a p q : ℕ) → a < letters → p < 32 → q < 32
+        → holdsRow (now (rows .exit)) (a * 32 + p) q ≡ transitionIn (now (transitions .entry)) p a q)
+        ⌝ }
+{
+    let mut i: usize = 0;
+    while i < letters * 32 {
+        rows[i] = sets::row(transitions, i % 32, i / 32) as u64;
+        i += 1;
+    }
+}
+
+// For each letter, from entry 128 a on, the unions of the choices of its n rows.
+fn letter_unions(rows: &[u64], letters: usize, n: usize, tables: &mut [u64])
+    requires { ⌜
+        (letters ≤ 16) × (n ≤ 32) × (letters * 32 ≤ length (now rows)) × (letters * 128 ≤ length (now tables))
+        ⌝ }
+    ensures { λ _. ⌜
+        ((a : ℕ) → a < letters → Unions (now (tables .exit)) (a * 128) (now (rows .entry)) (a * 32) (groupsFor n))
+        ⌝ }
+{
+    let groups = unions::groups_for(n);
+    let mut a: usize = 0;
+    while a < letters {
+        unions::fill(tables, a * 128, rows, a * 32, groups);
+        a += 1;
+    }
+}
+
+// The states that a transition on the letter reaches from a state of the set.
+fn on_letter(tables: &[u64], letters: usize, n: usize, set: u64, letter: u8) -> u64
+    requires { ⌜ (letters ≤ 16) × (letters * 128 ≤ length (now tables)) ⌝ }
+    ensures { λ r. ⌜
+        ((A : Automaton) → HeldUnions A n letters (now (tables .entry)) → setOf n r ≡ onLetter A (setOf n set) letter)
         ⌝ }
 {
     let a = letter as usize;
-    if a < 16 {
-        sets::row(transitions, p, a)
+    if a < letters {
+        unions::union(tables, a * 128, n, set)
     } else {
         0
     }
 }
 
-// Row p of the first n rows becomes the targets of p on the letter.
-fn letter_rows(transitions: &[u8; 2048], n: usize, letter: u8, rows: &mut [u32])
-    requires { ⌜ (n ≤ 32) × (n ≤ length (now rows)) ⌝ }
-    ensures { λ _. ⌜
-        ((A : Automaton) → Held A n (now (transitions .entry))
-        → (p q : ℕ) → p < n → q < n → holdsRow (now (rows .exit)) p q ≡ transition A p letter q)
-        ⌝ }
-{
-    let mut p: usize = 0;
-    while p < n {
-        rows[p] = letter_row(transitions, letter, p);
-        p += 1;
-    }
-}
-
-// The states that a transition on the letter reaches from a state of the set.
-fn on_letter(transitions: &[u8; 2048], n: usize, set: u32, letter: u8) -> u32
-    requires { ⌜ n ≤ 32 ⌝ }
-    ensures { λ r. ⌜
-        ((A : Automaton) → Held A n (now (transitions .entry)) → setOf n r ≡ onLetter A (setOf n set) letter)
-        ⌝ }
-{
-    let mut rows = [0u32; 32];
-    letter_rows(transitions, n, letter, &mut rows);
-    sets::spread(&rows, set, n)
-}
-
 // The states that a run on the word reaches from a state of the set.
-fn on_word(transitions: &[u8; 2048], n: usize, set: u32, word: &[u8]) -> u32
-    requires { ⌜ n ≤ 32 ⌝ }
+fn on_word(tables: &[u64], letters: usize, n: usize, set: u64, word: &[u8]) -> u64
+    requires { ⌜ (letters ≤ 16) × (letters * 128 ≤ length (now tables)) ⌝ }
     ensures { λ r. ⌜
-        ((A : Automaton) → Held A n (now (transitions .entry)) → setOf n r ≡ onWord A (setOf n set) (now (word .entry)))
+        ((A : Automaton) → HeldUnions A n letters (now (tables .entry)) → setOf n r ≡ onWord A (setOf n set) (now (word .entry)))
         ⌝ }
 {
     let mut reached = set;
     let mut i: usize = 0;
     while i < word.len() {
-        reached = on_letter(transitions, n, reached, word[i]);
+        reached = on_letter(tables, letters, n, reached, word[i]);
         i += 1;
     }
     reached
 }
 
-// The runs from each of n states go one step on along the rows; a run that comes to an accepting state is a visit.
-fn advance(rows: &[u32], n: usize, accepting: u32, runs: &mut [u32], visits: &mut [u32])
-    requires { ⌜ (n ≤ 32) × (n ≤ length (now rows)) × (n ≤ length (now runs)) × (n ≤ length (now visits)) ⌝ }
-    ensures { λ _. ⌜
-        ((p q : ℕ) → p < n → holdsRow (now (runs .exit)) p q
-        ≡ some (λ x. holdsRow (now (runs .entry)) p x && holdsRow (now (rows .entry)) x q) n 0)
+// The states that a run on the stem reaches from the state p.
+fn stem_ends(rows: &[u64], letters: usize, n: usize, p: usize, stem: &[u8]) -> u32
+    requires { ⌜ (letters ≤ 16) × (n ≤ 32) × (p < n) × (letters * 32 ≤ length (now rows)) ⌝ }
+    ensures { λ r. ⌜
+        ((A : Automaton) → HeldRows A n letters (now (rows .entry)) → setOf n r ≡ onWord A (only A p) (now (stem .entry)))
+        ⌝ }
+{
+    let mut tables = [0u64; 2048];
+    letter_unions(rows, letters, n, &mut tables);
+    (on_word(&tables, letters, n, sets::with_state(0, p) as u64, stem) % 4294967296) as u32
+}
+
+// The targets of p on the letter; there are none where the automaton lacks the letter.
+fn letter_row(rows: &[u64], letters: usize, letter: u8, p: usize) -> u64
+    requires { ⌜ (letters ≤ 16) × (letters * 32 ≤ length (now rows)) × (p < 32) ⌝ }
+    ensures { λ w. ⌜
+        ((A : Automaton) (n : ℕ) → HeldRows A n letters (now (rows .entry)) → (q : ℕ) → q < 32 → bit w q ≡ transition A p letter q)
+        ⌝ }
+{
+    let a = letter as usize;
+    if a < letters { rows[a * 32 + p] } else { 0 }
+}
+
+// A pair has the ends of runs in its low half and those of visits in its high half. The pair of t for runs that begin one step before t:
+// where t accepts, each of them is a visit.
+fn met(pair: u64, accepting: u32, t: usize) -> u64
+    requires { ⌜ t < 32 ⌝ }
+    ensures { λ r. ⌜ ((q : ℕ) → q < 32 → bit r q ≡ bit pair q) ⌝ }
+    ensures { λ r. ⌜ ((q : ℕ) → q < 32 → bit r (32 + q) ≡ (bit pair (32 + q) || (bit accepting t && bit pair q))) ⌝ }
+{
+    if sets::holds(accepting, t) {
+        pair | (pair % 4294967296) * 4294967296
+    } else {
+        pair
+    }
+}
+
+// The same of n pairs.
+fn met_pairs(pairs: &[u64], n: usize, accepting: u32, after: &mut [u64])
+    requires { ⌜ (n ≤ 32) × (n ≤ length (now pairs)) × (n ≤ length (now after)) ⌝ }
+    ensures { λ _. ⌜ Met n accepting (now (pairs .entry)) (now (after .exit)) ⌝ }
+{
+    let mut t: usize = 0;
+    while t < n {
+        after[t] = met(pairs[t], accepting, t);
+        t += 1;
+    }
+}
+
+// Each of n pairs becomes the union of the values of its state's targets on the letter; the table has the unions of their choices.
+fn join_pairs(rows: &[u64], letters: usize, letter: u8, table: &[u64], n: usize, pairs: &mut [u64])
+    requires { ⌜
+        (letters ≤ 16) × (letters * 32 ≤ length (now rows)) × (128 ≤ length (now table)) × (n ≤ 32) × (n ≤ length (now pairs))
         ⌝ }
     ensures { λ _. ⌜
-        ((p q : ℕ) → p < n → holdsRow (now (visits .exit)) p q
-        ≡ (some (λ x. holdsRow (now (visits .entry)) p x && holdsRow (now (rows .entry)) x q) n 0
-        || (some (λ x. holdsRow (now (runs .entry)) p x && holdsRow (now (rows .entry)) x q) n 0 && bit accepting q)))
+        ((A : Automaton) (values : List ℕ) → HeldRows A n letters (now (rows .entry))
+        → Unions (now (table .entry)) 0 values 0 (groupsFor n)
+        → (p x : ℕ) → p < n → holdsRow (now (pairs .exit)) p x ≡ some (λ t. transition A p letter t && holdsRow values t x) n 0)
         ⌝ }
 {
     let mut p: usize = 0;
     while p < n {
-        let next = sets::spread(rows, runs[p], n);
-        visits[p] = sets::spread(rows, visits[p], n) | (next & accepting);
-        runs[p] = next;
+        pairs[p] = unions::union(table, 0, n, letter_row(rows, letters, letter, p));
         p += 1;
     }
 }
 
-// The runs from each of n states read one letter more.
+// The pairs of n states for a word with the letter in front; `after` and `table` are room to work in.
 fn turn_letter(
-    transitions: &[u8; 2048],
+    rows: &[u64],
+    letters: usize,
     n: usize,
     accepting: u32,
     letter: u8,
-    runs: &mut [u32],
-    visits: &mut [u32],
+    after: &mut [u64],
+    table: &mut [u64],
+    pairs: &mut [u64],
 )
-    requires { ⌜ (n ≤ 32) × (n ≤ length (now runs)) × (n ≤ length (now visits)) ⌝ }
+    requires { ⌜
+        (letters ≤ 16) × (letters * 32 ≤ length (now rows)) × (n ≤ 32) × (32 ≤ length (now after)) × (128 ≤ length (now table))
+        × (n ≤ length (now pairs))
+        ⌝ }
     ensures { λ _. ⌜
-        ((A : Automaton) → Held A n (now (transitions .entry)) → HeldAccepting A accepting → (p : ℕ) → p < n
-        → TurnedOn A n letter (row (now (runs .entry)) p) (row (now (visits .entry)) p)
-        (row (now (runs .exit)) p) (row (now (visits .exit)) p))
+        ((A : Automaton) (v : List ℕ) → HeldRows A n letters (now (rows .entry)) → HeldAccepting A accepting
+        → Turned A n v (now (pairs .entry)) → Turned A n (letter ∷ v) (now (pairs .exit)))
         ⌝ }
 {
-    let mut rows = [0u32; 32];
-    letter_rows(transitions, n, letter, &mut rows);
-    advance(&rows, n, accepting, runs, visits);
+    met_pairs(pairs, n, accepting, after);
+    unions::fill(table, 0, after, 0, unions::groups_for(n));
+    join_pairs(rows, letters, letter, table, n, pairs);
 }
 
-// The runs from each of n states read the loop word.
-fn turn_word(
-    transitions: &[u8; 2048],
+// The pairs of n states for the loop word, letter by letter from its end.
+fn turn_word(rows: &[u64], letters: usize, n: usize, accepting: u32, turn: &[u8], pairs: &mut [u64])
+    requires { ⌜ (letters ≤ 16) × (letters * 32 ≤ length (now rows)) × (n ≤ 32) × (n ≤ length (now pairs)) ⌝ }
+    ensures { λ _. ⌜
+        ((A : Automaton) → HeldRows A n letters (now (rows .entry)) → HeldAccepting A accepting
+        → Turned A n [] (now (pairs .entry)) → Turned A n (now (turn .entry)) (now (pairs .exit)))
+        ⌝ }
+{
+    let mut after = [0u64; 32];
+    let mut table = [0u64; 128];
+    let mut i = turn.len();
+    while i > 0 {
+        i -= 1;
+        turn_letter(
+            rows,
+            letters,
+            n,
+            accepting,
+            turn[i],
+            &mut after,
+            &mut table,
+            pairs,
+        );
+    }
+}
+
+// The pairs of n states for the empty word: each state leads to itself, without a visit.
+fn diagonal(pairs: &mut [u64], n: usize)
+    requires { ⌜ (n ≤ 32) × (n ≤ length (now pairs)) ⌝ }
+    ensures { λ _. ⌜ ((p q : ℕ) → p < n → holdsRow (now (pairs .exit)) p q ≡ eqb p q) ⌝ }
+{
+    let mut p: usize = 0;
+    while p < n {
+        pairs[p] = sets::with_state(0, p) as u64;
+        p += 1;
+    }
+}
+
+// The low and the high half of each of n pairs.
+fn halves(pairs: &[u64], n: usize, runs: &mut [u32], visits: &mut [u32])
+    requires { ⌜ (n ≤ 32) × (n ≤ length (now pairs)) × (n ≤ length (now runs)) × (n ≤ length (now visits)) ⌝ }
+    ensures { λ _. ⌜
+        ((p q : ℕ) → p < n → q < 32 → holdsRow (now (runs .exit)) p q ≡ holdsRow (now (pairs .entry)) p q)
+        ⌝ }
+    ensures { λ _. ⌜
+        ((p q : ℕ) → p < n → q < 32 → holdsRow (now (visits .exit)) p q ≡ holdsRow (now (pairs .entry)) p (32 + q))
+        ⌝ }
+{
+    let mut p: usize = 0;
+    while p < n {
+        runs[p] = (pairs[p] % 4294967296) as u32;
+        visits[p] = (pairs[p] / 4294967296) as u32;
+        p += 1;
+    }
+}
+
+// What the loop word leads to from each of n states, and what it leads to by way of an accepting state.
+fn loop_rows(
+    rows: &[u64],
+    letters: usize,
     n: usize,
     accepting: u32,
     turn: &[u8],
     runs: &mut [u32],
     visits: &mut [u32],
 )
-    requires { ⌜ (n ≤ 32) × (n ≤ length (now runs)) × (n ≤ length (now visits)) ⌝ }
+    requires { ⌜
+        (letters ≤ 16) × (letters * 32 ≤ length (now rows)) × (n ≤ 32) × (n ≤ length (now runs)) × (n ≤ length (now visits))
+        ⌝ }
     ensures { λ _. ⌜
-        ((A : Automaton) → Held A n (now (transitions .entry)) → HeldAccepting A accepting → (p : ℕ) → p < n
-        → Turned A n (now (turn .entry)) (row (now (runs .entry)) p) (row (now (visits .entry)) p)
-        (row (now (runs .exit)) p) (row (now (visits .exit)) p))
+        ((A : Automaton) → HeldRows A n letters (now (rows .entry)) → HeldAccepting A accepting
+        → (p q : ℕ) → p < n → q < n → holdsRow (now (runs .exit)) p q ≡ related (loopRuns A (now (turn .entry))) p q)
+        ⌝ }
+    ensures { λ _. ⌜
+        ((A : Automaton) → HeldRows A n letters (now (rows .entry)) → HeldAccepting A accepting
+        → (p q : ℕ) → p < n → q < n → holdsRow (now (visits .exit)) p q ≡ related (loopVisits A (now (turn .entry))) p q)
         ⌝ }
 {
-    let mut i: usize = 0;
-    while i < turn.len() {
-        turn_letter(transitions, n, accepting, turn[i], runs, visits);
-        i += 1;
-    }
+    let mut pairs = [0u64; 32];
+    diagonal(&mut pairs, n);
+    turn_word(rows, letters, n, accepting, turn, &mut pairs);
+    halves(&pairs, n, runs, visits);
 }
 
 // Whether r is reached and comes back to itself by way of a visit.
@@ -173,13 +291,16 @@ pub fn accepted(a: Automaton, stem: &[u8], turn: &[u8]) -> bool
 {
     let transitions = a.transitions;
     let accepting = a.accepting;
+    let letters = a.letters;
     let n = a.states;
-    let ends = on_word(&transitions, n, sets::with_state(0, a.initial), stem);
+    let mut rows = [0u64; 512];
+    letter_rows(&transitions, letters, &mut rows);
+    let ends = stem_ends(&rows, letters, n, a.initial, stem);
     let mut runs = [0u32; 32];
     let mut visits = [0u32; 32];
-    sets::add_diagonal(&mut runs, n);
-    turn_word(
-        &transitions,
+    loop_rows(
+        &rows,
+        letters,
         n,
         sets::of_bytes(&accepting),
         turn,

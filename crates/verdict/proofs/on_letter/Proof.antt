@@ -1,34 +1,27 @@
--- `verdict::on_letter` meets its contract: the rows have the transitions on the letter, and what they relate the set to is what the
--- letter leads to. Assumes nothing.
+-- `verdict::on_letter` meets its contract: the set chooses the rows of its states, and a letter that the automaton lacks leads nowhere.
+-- Assumes nothing.
+use native.Mathlib.Omega.{arith}
 use lib.ListN.{set}
+use Rattle.verdict.proofs.WordSets.{letter-chosen, letter-none}
 use borrow.Author.Needs.{needs}
-use Rattle.verdict.proofs.WordSets.{letter-set}
 use Rattle.verdict.proofs.on_letter.Statement.{statement}
 use Rattle.verdict.proofs.on_letter.Tie as tie
 
-slice-aggregate-letter-rows : tie.Need-slice-aggregate-letter-rows
-slice-aggregate-letter-rows c = search needs
+mul-union : tie.Need-mul-union
+mul-union c = search needs
 
-letter-rows-requires : tie.Need-letter-rows-requires
-letter-rows-requires c κs = search needs
-
-slice-aggregate-spread : tie.Need-slice-aggregate-spread
-slice-aggregate-spread c = search needs
-
-spread-requires : tie.Need-spread-requires
-spread-requires c κs = search needs
+union-requires : tie.Need-union-requires
+union-requires c κs = search needs
 
 returns : tie.Need-returns
 returns c A h =
-    let l = c .before .before .before .letter-rows in
-    letter-set A _ _ (h .states) (l .last .1 .1 .1 .0) (l .ensures A h) _ (c .spread .result) (c .spread .ensures)
+    let a = c .before .before .before .args in
+    letter-chosen A (a .n) (a .letters) (h .rows) (h .held) (a .set) (a .letter) (c .union .result) (omega arith)
+    (c .union .ensures (h .rows) _ (h .unions (a .letter) (omega arith)))
+
+returns-2 : tie.Need-returns-2
+returns-2 c A h =
+    let a = c .before .before .args in letter-none A (a .n) (a .letters) (h .rows) (h .held) (a .set) (a .letter) (omega arith)
 
 pub on-letter-spec : {M : Type 1} → statement M
-on-letter-spec =
-    tie.close
-    (tie.spec
-    slice-aggregate-letter-rows
-    letter-rows-requires
-    slice-aggregate-spread
-    spread-requires
-    returns)
+on-letter-spec = tie.close (tie.spec mul-union union-requires returns returns-2)

@@ -8,18 +8,18 @@ use native.Mathlib.Omega.{arith}
 use lib.ListN.{length, set, drop}
 use Rattle.automaton.specs.declared.Automaton.{Automaton}
 use Rattle.verdict.specs.Verdict.{onWord}
-use Rattle.verdict.specs.Words.{setOf, Held}
+use Rattle.verdict.specs.Words.{setOf, HeldUnions}
 use Rattle.verdict.proofs.WordSets.{on-word-step, on-word-end}
 use Rattle.verdict.proofs.on_word.Statement.{statement}
 use Rattle.verdict.proofs.on_word.Tie as tie
 
 abbrev Inv-loop : tie.InvT-loop
-Inv-loop transitions n set word reached₀ i₀ reached i =
+Inv-loop tables letters n set word reached₀ i₀ reached i =
     (i ≤ length word)
-    × ((A : Automaton) → Held A n transitions → onWord A (setOf n reached) (drop i word) ≡ onWord A (setOf n set) word)
+    × ((A : Automaton) → HeldUnions A n letters tables → onWord A (setOf n reached) (drop i word) ≡ onWord A (setOf n set) word)
 
 abbrev μ-loop : tie.MeasureT-loop
-μ-loop transitions n set word reached₀ i₀ reached i = length word - i
+μ-loop tables letters n set word reached₀ i₀ reached i = length word - i
 
 loop-holds : tie.Need-loop-holds Inv-loop μ-loop
 loop-holds c = (omega arith, λ A h. refl)
@@ -39,7 +39,7 @@ loop-less c = omega arith
 loop-again : tie.Need-loop-again Inv-loop μ-loop
 loop-again c =
     let l = c .before .before .before .loop in
-    let a = c .before .before .before .before .before .args in (
+    let a = c .before .before .before .before .before .before .args in (
       omega arith,
       λ A h. ap (λ (S : List Bool). onWord A S (drop (l .i + 1) (a .word .now))) (c .on-letter .ensures A h)
           ∙ on-word-step A (a .word .now) (l .i) (setOf (a .n) (l .reached)) (omega arith)
@@ -49,7 +49,7 @@ loop-again c =
 returns : tie.Need-returns Inv-loop μ-loop
 returns c A h =
     let l = c .before .loop in
-    let a = c .before .before .before .args in
+    let a = c .before .before .before .before .args in
     sym (on-word-end A (a .word .now) (l .i) (setOf (a .n) (l .reached)) (omega arith)) ∙ l .inv .1 A h
 
 pub on-word-spec : {M : Type 1} → statement M

@@ -1,21 +1,27 @@
--- `verdict::turn_letter` meets its contract: the rows have the transitions on the letter, and every run goes one step on along them.
--- Assumes nothing.
-use borrow.Author.Needs.{needs}
+-- `verdict::turn_letter` meets its contract: the targets of a state choose among the pairs, each with its visits. Assumes nothing.
+use mathlib.Core.Path.{subst}
+use native.Mathlib.Omega.{arith}
+use Rattle.unions.specs.Unions.{Unions}
+use Rattle.unions.proofs.UnionTables.{groups-enough}
 use Rattle.verdict.proofs.WordSets.{turned-on}
+use borrow.Author.Needs.{needs}
 use Rattle.verdict.proofs.turn_letter.Statement.{statement}
 use Rattle.verdict.proofs.turn_letter.Tie as tie
 
-slice-aggregate-letter-rows : tie.Need-slice-aggregate-letter-rows
-slice-aggregate-letter-rows c = search needs
+met-pairs-requires : tie.Need-met-pairs-requires
+met-pairs-requires c κs = search needs
 
-letter-rows-requires : tie.Need-letter-rows-requires
-letter-rows-requires c κs = search needs
+groups-for-requires : tie.Need-groups-for-requires
+groups-for-requires c κs = search needs
 
-slice-aggregate-advance : tie.Need-slice-aggregate-advance
-slice-aggregate-advance c = search needs
+fill-requires : tie.Need-fill-requires
+fill-requires c κs =
+    let met = c .before .before .before .before .before in
+    let few = groups-enough (met .before .before .before .before .before .before .before .args .n) (omega arith) in
+    omega (arith, few .0, c .groups-for .ensures)
 
-advance-requires : tie.Need-advance-requires
-advance-requires c κs = search needs
+join-pairs-requires : tie.Need-join-pairs-requires
+join-pairs-requires c κs = search needs
 
 same-length : tie.Need-same-length
 same-length c = search needs
@@ -23,20 +29,30 @@ same-length c = search needs
 same-length-2 : tie.Need-same-length-2
 same-length-2 c = search needs
 
+same-length-3 : tie.Need-same-length-3
+same-length-3 c = search needs
+
 returns : tie.Need-returns
-returns c A h held p l =
-    let s = c .before .before .before .before .advance in
-    let r = c .before .before .before .before .before .before .before .before .before .letter-rows in
-    turned-on A _ _ (h .states) (r .last .1 .1 .1 .0) (r .ensures A h) _ _ _ _ _ held (λ q. s .ensures .0 p q l) (λ q. s .ensures .1 p q l)
+returns c A v h held t =
+    let join = c .before .before in
+    let fill = join .before .before .before .before .before in
+    let groups = fill .before in
+    let met = groups .before .before .before .before .before in
+    let a = met .before .before .before .before .before .before .before .args in
+    let after = met .met-pairs .last .1 .1 .1 .0 in
+    turned-on A (a .n) (a .letters) (a .rows .now) h (a .letter) (a .accepting) v (a .pairs .now) after _ held t (met .met-pairs .ensures)
+    (join .join-pairs .ensures A after h
+    (subst (Unions (fill .fill .last .0) 0 after 0) (groups .groups-for .ensures) (fill .fill .ensures .0)))
 
 pub turn-letter-spec : {M : Type 1} → statement M
 turn-letter-spec =
     tie.close
     (tie.spec
-    slice-aggregate-letter-rows
-    letter-rows-requires
-    slice-aggregate-advance
-    advance-requires
+    met-pairs-requires
+    groups-for-requires
+    fill-requires
+    join-pairs-requires
     same-length
     same-length-2
+    same-length-3
     returns)

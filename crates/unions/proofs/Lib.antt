@@ -1,0 +1,2 @@
+-- Laws of tables of unions.
+pub mod UnionTables

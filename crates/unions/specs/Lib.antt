@@ -1,0 +1,2 @@
+-- Tables of unions.
+pub mod Unions
