@@ -1,94 +1,42 @@
 /* Calls entry_open, entry_offer and entry_verdict, linked from the kernel's archive, on entries held as bytes. */
-#include <stddef.h>
-#include <stdint.h>
-#include <stdio.h>
-#include <string.h>
+#include "../check.h"
 
-uint64_t entry_open(uint8_t *entry, size_t entry_len, const uint8_t *file, size_t file_len);
-uint64_t entry_offer(uint8_t *entry, size_t entry_len, const uint8_t *file, size_t file_len, uint64_t bound, uint8_t *work,
-                     size_t work_len, uint8_t *word, size_t word_len);
-uint64_t entry_verdict(const uint8_t *entry, size_t entry_len, const uint8_t *stem, size_t stem_len, const uint8_t *loop,
-                       size_t loop_len);
-
-enum { ENTRY = 2061 };
-
-struct file {
-    uint8_t bytes[512];
-    size_t len;
-};
-
-/* A file: states, letters, initial state, accepting states, transitions in threes. */
-static struct file made(uint8_t n, uint8_t k, const uint8_t *acc, size_t accs, const uint8_t (*t)[3], size_t ts) {
-    struct file f = {{0x41, 0x48, n, k, 0}, 5};
-    for (size_t i = 0; i < accs; i++) {
-        const uint8_t r[] = {0x41, 0x46, acc[i]};
-        memcpy(f.bytes + f.len, r, 3), f.len += 3;
-    }
-    for (size_t i = 0; i < ts; i++) {
-        const uint8_t r[] = {0x41, 0x54, t[i][0], t[i][1], t[i][2]};
-        memcpy(f.bytes + f.len, r, 5), f.len += 5;
-    }
-    f.bytes[f.len++] = 0x41, f.bytes[f.len++] = 0x45;
-    return f;
-}
-
-static struct file file_f(void) {
-    static const uint8_t a[] = {3}, t[][3] = {{0, 0, 2}, {0, 1, 1}, {1, 0, 3}, {1, 1, 1}, {2, 0, 2}, {2, 1, 3}, {3, 0, 3}, {3, 1, 3}};
-    return made(4, 2, a, 1, t, 8);
-}
-
-static struct file file_g(void) {
-    static const uint8_t a[] = {1, 2}, t[][3] = {{0, 0, 0}, {0, 0, 2}, {0, 1, 0}, {0, 1, 1}, {1, 0, 1}, {1, 0, 2}, {2, 1, 1}, {2, 1, 2}};
-    return made(3, 2, a, 2, t, 8);
-}
+static struct file file_f(void) { return example("examples/f.ba"); }
+static struct file file_g(void) { return example("examples/g.ba"); }
 
 /* One accepting state that loops on letter 0 of two. */
-static struct file zeros(void) {
-    static const uint8_t a[] = {0}, t[][3] = {{0, 0, 0}};
-    return made(1, 2, a, 1, t, 1);
-}
-
-/* A chain of n accepting states on k letters, the last one looping. */
-static struct file chain(uint8_t n, uint8_t k) {
-    uint8_t a[8], t[16][3];
-    size_t ts = 0;
-    for (uint8_t q = 0; q < n; q++) {
-        a[q] = q;
-        for (uint8_t l = 0; l < k; l++, ts++) t[ts][0] = q, t[ts][1] = l, t[ts][2] = q + 1 < n ? q + 1 : q;
-    }
-    return made(n, k, a, n, (const uint8_t(*)[3])t, ts);
-}
+static struct file zeros(void) { return example("examples/absence.ba"); }
 
 /* The accepting initial state does not come back on the loop 0. */
 static struct file once(void) {
-    static const uint8_t a[] = {0, 2}, t[][3] = {{0, 0, 1}, {1, 0, 1}, {1, 1, 2}, {2, 1, 2}};
-    return made(3, 2, a, 2, t, 4);
+    struct file f = header(3, 2, 0);
+    accepting(&f, 0), accepting(&f, 2);
+    transition(&f, 0, 0, 1), transition(&f, 1, 0, 1), transition(&f, 1, 1, 2), transition(&f, 2, 1, 2);
+    end(&f);
+    return f;
 }
 
-static int failures, checks;
-
-static void check(const char *name, int ok) {
-    checks++;
-    if (!ok) failures++;
-    printf("%s: %s\n", ok ? "ok" : "FAILED", name);
-}
-
-enum { FILL = 0x5a, MOST = 65520, WORDS = 64 };
+enum { ENTRY = EDITION_ENTRY_BYTES, SLOT = EDITION_SLOT_BYTES, MOST = 65520, WORDS = 64 };
 static uint8_t entry[ENTRY], before[ENTRY], work[MOST + 64], word[WORDS + 64];
 
 static uint64_t number(uint64_t kind, uint64_t forward, uint64_t back, uint64_t len, uint64_t walk) {
     return kind + (forward << 8) + (back << 24) + (len << 40) + (walk << 56);
 }
 
-static int kept(const uint8_t *from, size_t n) {
-    for (size_t i = 0; i < n; i++)
-        if (from[i] != FILL) return 0;
-    return 1;
+static uint64_t refused(unsigned refusal, uint64_t forward, uint64_t back, uint64_t len, uint64_t walk) {
+    return number(100 + refusal, forward, back, len, walk);
+}
+
+/* Whether the header's functions give the number's parts. */
+static int parts(uint64_t r) {
+    unsigned kind = edition_kind(r), refusal = edition_refusal(r);
+    return number(kind, edition_offer_forward(r), edition_offer_back(r), edition_offer_word(r), edition_offer_walk(r)) == r
+           && refusal == (kind < 100 ? 0 : kind - 100);
 }
 
 static int summary(uint8_t states, uint8_t first, uint32_t edition) {
-    uint32_t e = entry[5] | (uint32_t)entry[6] << 8 | (uint32_t)entry[7] << 16 | (uint32_t)entry[8] << 24;
-    return entry[0] == 1 && entry[1] == states && entry[4] == first && e == edition;
+    return edition_is_open(entry) && edition_states(entry) == states && edition_first_states(entry) == first
+           && edition_number(entry) == edition;
 }
 
 static void fresh(void) { memset(entry, 0, sizeof entry); }
@@ -102,11 +50,11 @@ static void opened(const struct file *f) {
 static void offer(const char *name, const struct file *f, uint64_t bound, size_t slots, size_t room, uint64_t expected, size_t used,
                   const char *letters, size_t n) {
     memset(work, FILL, sizeof work), memset(word, FILL, sizeof word), memcpy(before, entry, ENTRY);
-    uint64_t r = entry_offer(entry, ENTRY, f->bytes, f->len, bound, work, 40 * slots, word, room);
+    uint64_t r = entry_offer(entry, ENTRY, f->bytes, f->len, bound, work, SLOT * slots, word, room);
     if (r != expected) printf("  got %llx, not %llx\n", (unsigned long long)r, (unsigned long long)expected);
-    int ok = r == expected && kept(work + 40 * used, sizeof work - 40 * used) && kept(word + n, sizeof word - n);
+    int ok = r == expected && parts(r) && kept(work + SLOT * used, sizeof work - SLOT * used) && kept(word + n, sizeof word - n);
     ok = ok && memcmp(word, letters, n) == 0;
-    ok = ok && ((r & 0xff) == 0 || memcmp(entry, before, ENTRY) == 0);
+    ok = ok && (edition_kind(r) == EDITION_TAKEN || memcmp(entry, before, ENTRY) == 0);
     check(name, ok);
 }
 
@@ -124,46 +72,46 @@ static void verdicts(void) {
     verdict("K10: F on stem 1, loop 0 says yes", "\1", 1, "\0", 1, 1);
     static char long_word[4097];
     verdict("K11: a stem of 4,096 letters passes", long_word, 4096, "\0\1", 2, 1);
-    verdict("K11: a stem of 4,097 does not", long_word, 4097, "\0\1", 2, 115);
+    verdict("K11: a stem of 4,097 does not", long_word, 4097, "\0\1", 2, 100 + EDITION_REFUSED_LASSO);
     verdict("a loop of 4,096 letters passes", "", 0, long_word, 4096, 0);
-    verdict("a loop of 4,097 does not", "", 0, long_word, 4097, 115);
-    verdict("row 15: empty loop", "", 0, "", 0, 115);
-    verdict("row 15: letter outside in the stem", "\2", 1, "\0", 1, 115);
-    verdict("row 15: letter outside in the loop", "", 0, "\0\2", 2, 115);
+    verdict("a loop of 4,097 does not", "", 0, long_word, 4097, 100 + EDITION_REFUSED_LASSO);
+    verdict("row 15: empty loop", "", 0, "", 0, 100 + EDITION_REFUSED_LASSO);
+    verdict("row 15: letter outside in the stem", "\2", 1, "\0", 1, 100 + EDITION_REFUSED_LASSO);
+    verdict("row 15: letter outside in the loop", "", 0, "\0\2", 2, 100 + EDITION_REFUSED_LASSO);
     opened(&o);
     verdict("an accepting state that does not come back on the loop is not enough", "", 0, "\0", 1, 0);
     verdict("but one on the loop is", "\0", 1, "\1", 1, 1);
     fresh();
-    verdict("row 13: verdict on an empty entry", "", 0, "\0", 1, 113);
+    verdict("row 13: verdict on an empty entry", "", 0, "\0", 1, 100 + EDITION_REFUSED_EMPTY);
     memset(entry + 1, 0xff, ENTRY - 1);
-    verdict("leftovers in an empty entry are not examined", "", 0, "\0", 1, 113);
+    verdict("leftovers in an empty entry are not examined", "", 0, "\0", 1, 100 + EDITION_REFUSED_EMPTY);
 }
 
 static void offers(void) {
     struct file f = file_f(), g = file_g(), z = zeros();
     fresh();
-    offer("row 13: offer to a fresh entry", &g, 1, 64, 8, number(113, 0, 0, 0, 0), 0, "", 0);
+    offer("row 13: offer to a fresh entry", &g, 1, 64, 8, refused(EDITION_REFUSED_EMPTY, 0, 0, 0, 0), 0, "", 0);
     opened(&f);
     memcpy(before, entry, ENTRY);
-    check("row 12: open twice", entry_open(entry, ENTRY, g.bytes, g.len) == 112 && memcmp(entry, before, ENTRY) == 0);
-    offer("G at 0 is turned down by the back walk, with word 0", &g, 0, 64, 8, number(2, 4, 2, 1, 0), 4, "\0", 1);
-    offer("11 in the back walk", &g, 0, 64, 0, number(111, 0, 0, 1, 2), 4, "", 0);
-    offer("a smaller automaton that lacks a word: forward, with word 1", &z, 1, 64, 8, number(1, 2, 0, 1, 0), 2, "\1", 1);
-    offer("11 in the forward walk", &z, 1, 64, 0, number(111, 0, 0, 1, 1), 2, "", 0);
-    offer("10 in the forward walk", &g, 1, 4, 8, number(110, 4, 0, 0, 1), 4, "", 0);
-    offer("10 in the back walk", &g, 1, 7, 8, number(110, 0, 7, 0, 2), 7, "", 0);
-    offer("row 8: bound 15", &g, 15, 64, 8, number(108, 0, 0, 0, 0), 0, "", 0);
-    offer("row 8: bound 2^32", &g, (uint64_t)1 << 32, 64, 8, number(108, 0, 0, 0, 0), 0, "", 0);
-    offer("row 14: F offered to F", &f, 1, 64, 8, number(114, 0, 0, 0, 0), 0, "", 0);
-    offer("F, then G at 1: taken, 5 and 8", &g, 1, 64, 8, number(0, 5, 8, 0, 0), 8, "", 0);
+    check("row 12: open twice", entry_open(entry, ENTRY, g.bytes, g.len) == 100 + EDITION_REFUSED_ALREADY_OPEN && memcmp(entry, before, ENTRY) == 0);
+    offer("G at 0 is turned down by the back walk, with word 0", &g, 0, 64, 8, number(EDITION_BACK, 4, 2, 1, 0), 4, "\0", 1);
+    offer("11 in the back walk", &g, 0, 64, 0, refused(EDITION_REFUSED_WORD, 0, 0, 1, 2), 4, "", 0);
+    offer("a smaller automaton that lacks a word: forward, with word 1", &z, 1, 64, 8, number(EDITION_FORWARD, 2, 0, 1, 0), 2, "\1", 1);
+    offer("11 in the forward walk", &z, 1, 64, 0, refused(EDITION_REFUSED_WORD, 0, 0, 1, 1), 2, "", 0);
+    offer("10 in the forward walk", &g, 1, 4, 8, refused(EDITION_REFUSED_SLOTS, 4, 0, 0, 1), 4, "", 0);
+    offer("10 in the back walk", &g, 1, 7, 8, refused(EDITION_REFUSED_SLOTS, 0, 7, 0, 2), 7, "", 0);
+    offer("row 8: bound 15", &g, 15, 64, 8, refused(EDITION_REFUSED_BOUND, 0, 0, 0, 0), 0, "", 0);
+    offer("row 8: bound 2^32", &g, (uint64_t)1 << 32, 64, 8, refused(EDITION_REFUSED_BOUND, 0, 0, 0, 0), 0, "", 0);
+    offer("row 14: F offered to F", &f, 1, 64, 8, refused(EDITION_REFUSED_NOT_SMALLER, 0, 0, 0, 0), 0, "", 0);
+    offer("F, then G at 1: taken, 5 and 8", &g, 1, 64, 8, number(EDITION_TAKEN, 5, 8, 0, 0), 8, "", 0);
     check("the entry holds the offer: 3 states of 4, edition 1", summary(3, 4, 1));
-    offer("row 14: G offered to G", &g, 1, 64, 8, number(114, 0, 0, 0, 0), 0, "", 0);
+    offer("row 14: G offered to G", &g, 1, 64, 8, refused(EDITION_REFUSED_NOT_SMALLER, 0, 0, 0, 0), 0, "", 0);
     verdict("the verdicts are those of F: yes", "", 0, "\0\1", 2, 1);
     verdict("the verdicts are those of F: no", "", 0, "\0", 1, 0);
 }
 
 static void bad_files(void) {
-    struct file f = file_f(), h = chain(1, 1);
+    struct file f = file_f(), h = chain(1, 1, 1);
     opened(&f);
     static const uint8_t r[6][11] = {
         {0}, {0x41, 0x46, 0}, {0x41, 0x48, 0, 1, 0}, {0x41, 0x48, 1, 1, 0, 0x41, 0x46, 1},
@@ -174,26 +122,26 @@ static void bad_files(void) {
         memcpy(b.bytes, r[i], len[i]);
         char name[64];
         snprintf(name, sizeof name, "row %u from offer", i + 1);
-        offer(name, &b, 1, 64, 8, number(101 + i, 0, 0, 0, 0), 0, "", 0);
+        offer(name, &b, 1, 64, 8, refused(i + EDITION_REFUSED_FILE_ENDS, 0, 0, 0, 0), 0, "", 0);
         fresh();
         snprintf(name, sizeof name, "row %u from open", i + 1);
-        check(name, entry_open(entry, ENTRY, b.bytes, b.len) == 101 + i && entry[0] == 0);
+        check(name, entry_open(entry, ENTRY, b.bytes, b.len) == 100 + EDITION_REFUSED_FILE_ENDS + i && entry[0] == 0);
         opened(&f);
     }
-    offer("row 7 from offer: letter counts differ", &h, 1, 64, 8, number(107, 0, 0, 0, 0), 0, "", 0);
+    offer("row 7 from offer: letter counts differ", &h, 1, 64, 8, refused(EDITION_REFUSED_LETTERS, 0, 0, 0, 0), 0, "", 0);
 }
 
 /* Three editions, with refused and turned-down calls between them. */
 static void editions(void) {
-    struct file a3 = chain(3, 2), a2 = chain(2, 2), a1 = chain(1, 2), h = chain(1, 1), z = zeros();
+    struct file a3 = chain(3, 2, 1), a2 = chain(2, 2, 1), a1 = chain(1, 2, 1), h = chain(1, 1, 1), z = zeros();
     opened(&a3);
-    offer("letters differ: refused", &h, 0, 64, 8, number(107, 0, 0, 0, 0), 0, "", 0);
-    offer("turned down: forward, with word 1", &z, 0, 64, 8, number(1, 2, 0, 1, 0), 2, "\1", 1);
-    offer("second edition", &a2, 0, 64, 8, number(0, 3, 3, 0, 0), 3, "", 0);
-    offer("a larger one is refused", &a3, 0, 64, 8, number(114, 0, 0, 0, 0), 0, "", 0);
-    offer("turned down again, by the second edition", &z, 0, 64, 8, number(1, 2, 0, 1, 0), 2, "\1", 1);
-    offer("too few slots: refused", &a1, 0, 1, 8, number(110, 1, 0, 0, 1), 1, "", 0);
-    offer("third edition", &a1, 0, 64, 8, number(0, 2, 2, 0, 0), 2, "", 0);
+    offer("letters differ: refused", &h, 0, 64, 8, refused(EDITION_REFUSED_LETTERS, 0, 0, 0, 0), 0, "", 0);
+    offer("turned down: forward, with word 1", &z, 0, 64, 8, number(EDITION_FORWARD, 2, 0, 1, 0), 2, "\1", 1);
+    offer("second edition", &a2, 0, 64, 8, number(EDITION_TAKEN, 3, 3, 0, 0), 3, "", 0);
+    offer("a larger one is refused", &a3, 0, 64, 8, refused(EDITION_REFUSED_NOT_SMALLER, 0, 0, 0, 0), 0, "", 0);
+    offer("turned down again, by the second edition", &z, 0, 64, 8, number(EDITION_FORWARD, 2, 0, 1, 0), 2, "\1", 1);
+    offer("too few slots: refused", &a1, 0, 1, 8, refused(EDITION_REFUSED_SLOTS, 1, 0, 0, 1), 1, "", 0);
+    offer("third edition", &a1, 0, 64, 8, number(EDITION_TAKEN, 2, 2, 0, 0), 2, "", 0);
     check("edition 2, one state of three", summary(1, 3, 2));
     verdict("the verdict of the first edition", "", 0, "\0\1", 2, 1);
 }
@@ -210,19 +158,19 @@ static void forged(void) {
         {"row 9: a transition outside", 13 + (31 * 16 + 15) * 4 + 3, 0x80}, {"row 9: a dead state", 9, 0}};
     for (size_t i = 0; i < sizeof wrong / sizeof *wrong; i++) {
         memcpy(entry, good, ENTRY), entry[wrong[i].at] = wrong[i].value, memcpy(before, entry, ENTRY);
-        int ok = entry_open(entry, ENTRY, g.bytes, g.len) == 109 && memcmp(entry, before, ENTRY) == 0;
-        ok = ok && entry_offer(entry, ENTRY, g.bytes, g.len, 1, work, MOST, word, WORDS) == 109 && memcmp(entry, before, ENTRY) == 0;
-        ok = ok && entry_verdict(entry, ENTRY, NULL, 0, (const uint8_t *)"\0", 1) == 109;
+        int ok = entry_open(entry, ENTRY, g.bytes, g.len) == 100 + EDITION_REFUSED_MALFORMED && memcmp(entry, before, ENTRY) == 0;
+        ok = ok && entry_offer(entry, ENTRY, g.bytes, g.len, 1, work, MOST, word, WORDS) == 100 + EDITION_REFUSED_MALFORMED && memcmp(entry, before, ENTRY) == 0;
+        ok = ok && entry_verdict(entry, ENTRY, NULL, 0, (const uint8_t *)"\0", 1) == 100 + EDITION_REFUSED_MALFORMED;
         check(wrong[i].name, ok);
     }
     memcpy(entry, good, ENTRY), entry[5] = 0x20, entry[6] = 0xcb, entry[7] = 2; /* 183,072 */
-    verdict("row 9: edition 183,072", "", 0, "\0\1", 2, 109);
+    verdict("row 9: edition 183,072", "", 0, "\0\1", 2, 100 + EDITION_REFUSED_MALFORMED);
     entry[5] = 0x1f; /* 183,071 */
     verdict("edition 183,071 is well formed", "", 0, "\0\1", 2, 1);
-    offer("row 14: edition already 183,071", &g, 1, 64, 8, number(114, 0, 0, 0, 0), 0, "", 0);
+    offer("row 14: edition already 183,071", &g, 1, 64, 8, refused(EDITION_REFUSED_NOT_SMALLER, 0, 0, 0, 0), 0, "", 0);
     memcpy(entry, good, ENTRY);
-    check("row 9: another length", entry_verdict(entry, ENTRY - 1, NULL, 0, (const uint8_t *)"\0", 1) == 109
-          && entry_open(NULL, 0, g.bytes, g.len) == 109);
+    check("row 9: another length", entry_verdict(entry, ENTRY - 1, NULL, 0, (const uint8_t *)"\0", 1) == 100 + EDITION_REFUSED_MALFORMED
+          && entry_open(NULL, 0, g.bytes, g.len) == 100 + EDITION_REFUSED_MALFORMED);
 }
 
 int main(void) {
@@ -231,6 +179,5 @@ int main(void) {
     bad_files();
     editions();
     forged();
-    printf("entries from C: %d checks, %d failed\n", checks, failures);
-    return failures != 0;
+    return conclude("entries from C");
 }

@@ -1,43 +1,62 @@
-/* Measures the stack that contain uses: for a walk without a word, and for each letter of a word that is read back. */
+/* Measures the stack that the functions use: for calls that read no word back, and for each letter of a word that is read back. */
 #define _POSIX_C_SOURCE 200809L
+#include "../check.h"
 #include <pthread.h>
-#include <stdint.h>
-#include <stdio.h>
-#include <stdlib.h>
-#include <string.h>
 
-uint64_t contain(const uint8_t *first, size_t first_len, const uint8_t *second, size_t second_len, uint64_t bound,
-                 uint8_t *work, size_t work_len, uint8_t *word, size_t word_len);
+enum { STACK = 4 << 20, LETTERS = 434, MOST = 64 * 1024 };
 
-enum { STACK = 4 << 20, LETTERS = 434 };
-
-static uint8_t left[1024], right[1024], work[4096 * 40], word[4096];
-static size_t left_len, right_len;
+static struct file left, right, small;
+static uint8_t work[EDITION_MAX_WORK], word[EDITION_MAX_WORD];
+static uint8_t entry[EDITION_ENTRY_BYTES], fresh[EDITION_ENTRY_BYTES];
+static const uint8_t zeros[EDITION_MAX_LASSO];
 static uint64_t bound, answer;
 
-static void put(uint8_t *f, size_t *n, const uint8_t *b, size_t len) { memcpy(f + *n, b, len), *n += len; }
-
-static void transition(uint8_t *f, size_t *n, uint8_t p, uint8_t a, uint8_t r) {
-    const uint8_t b[] = {0x41, 0x54, p, a, r};
-    put(f, n, b, 5);
+/* A ring of n states on letter 0, the first accepting, each staying on letter 1. */
+static struct file ring(uint8_t n) {
+    struct file f = header(n, 2, 0);
+    accepting(&f, 0);
+    for (uint8_t q = 0; q < n; q++) transition(&f, q, 0, (uint8_t)((q + 1) % n)), transition(&f, q, 1, q);
+    end(&f);
+    return f;
 }
 
-/* Left: 31 states in a ring on letter 0, the first accepting, each staying on letter 1. Right: such a ring without an accepting
-   state, each state going to an accepting one on letter 1. At bound 14 the shortest word that shows the difference has 434 letters. */
-static void rings(void) {
-    const uint8_t hl[] = {0x41, 0x48, 31, 2, 0, 0x41, 0x46, 0}, hr[] = {0x41, 0x48, 32, 2, 0, 0x41, 0x46, 31}, end[] = {0x41, 0x45};
-    put(left, &left_len, hl, 8), put(right, &right_len, hr, 8);
-    for (uint8_t q = 0; q < 31; q++) {
-        transition(left, &left_len, q, 0, (uint8_t)((q + 1) % 31)), transition(left, &left_len, q, 1, q);
-        transition(right, &right_len, q, 0, (uint8_t)((q + 1) % 31)), transition(right, &right_len, q, 1, 31);
-    }
-    transition(right, &right_len, 31, 0, 31), transition(right, &right_len, 31, 1, 31);
-    put(left, &left_len, end, 2), put(right, &right_len, end, 2);
+/* A ring of n states on letter 0 of which none accepts, each going to an accepting one on letter 1. */
+static struct file waiting(uint8_t n) {
+    struct file f = header((uint8_t)(n + 1), 2, 0);
+    accepting(&f, n), transition(&f, n, 0, n), transition(&f, n, 1, n);
+    for (uint8_t q = 0; q < n; q++) transition(&f, q, 0, (uint8_t)((q + 1) % n)), transition(&f, q, 1, n);
+    end(&f);
+    return f;
+}
+
+/* Left in right: at bound 14 the shortest word that shows the difference has 434 letters. Small can be offered to left, with the same word. */
+static void automata(void) {
+    left = ring(31), right = waiting(31), small = waiting(29);
+    if (entry_open(entry, sizeof entry, left.bytes, left.len)) exit(2);
 }
 
 static void *call(void *arg) {
     (void)arg;
-    answer = contain(left, left_len, right, right_len, bound, work, sizeof work, word, sizeof word);
+    answer = contain(left.bytes, left.len, right.bytes, right.len, bound, work, sizeof work, word, sizeof word);
+    return NULL;
+}
+
+static void *offer(void *arg) {
+    (void)arg;
+    answer = entry_offer(entry, sizeof entry, small.bytes, small.len, bound, work, sizeof work, word, sizeof word);
+    return NULL;
+}
+
+static void *open_entry(void *arg) {
+    (void)arg;
+    memset(fresh, 0, sizeof fresh);
+    answer = entry_open(fresh, sizeof fresh, left.bytes, left.len);
+    return NULL;
+}
+
+static void *verdict(void *arg) {
+    (void)arg;
+    answer = entry_verdict(entry, sizeof entry, zeros, sizeof zeros, zeros, sizeof zeros);
     return NULL;
 }
 
@@ -60,22 +79,42 @@ static long used(void *(*run)(void *)) {
     return STACK - i;
 }
 
+static long base;
+
+/* The stack of a call at a bound, over that of an empty thread. */
+static long at(uint64_t b, void *(*run)(void *)) {
+    bound = b;
+    return used(run) - base;
+}
+
+/* Prints the stack of a call that is refused, and of one with a short word and one with a long one; whether it is within the limits. */
+static int walks(const char *name, void *(*run)(void *), size_t (*letters)(uint64_t)) {
+    long refused = at(15, run), shallow = at(0, run);
+    size_t few = letters(answer);
+    long deep = at(14, run);
+    size_t many = letters(answer);
+    double each = (double)(deep - shallow) / (double)(many - few);
+    printf("stack of %s: %ld bytes for a refused call, %ld with a word of %zu letters, %ld with %zu letters: %.1f a letter\n", name, refused,
+           shallow, few, deep, many, each);
+    return many == LETTERS && shallow <= MOST && each <= 128;
+}
+
+/* Prints the stack of a call without a walk; whether it is within the limit. */
+static int plain(const char *name, void *(*run)(void *), uint64_t expected) {
+    long bytes = at(0, run);
+    printf("stack of %s: %ld bytes\n", name, bytes);
+    return answer == expected && bytes <= MOST;
+}
+
 int main(void) {
-    rings();
+    automata();
     bound = 14;
     call(NULL); /* so that no symbol is left to be bound on a measured stack */
     used(nothing);
-    long base = used(nothing);
-    bound = 15;
-    long refused = used(call) - base;
-    bound = 14;
-    long deep = used(call) - base;
-    uint64_t letters = answer >> 24;
-    bound = 0;
-    long shallow = used(call) - base;
-    uint64_t few = answer >> 24;
-    double each = (double)(deep - shallow) / (double)(letters - few);
-    printf("stack: %ld bytes for a refused call, %ld for a walk with a word of %llu letters, %ld with %llu letters: %.1f a letter\n",
-           refused, shallow, (unsigned long long)few, deep, (unsigned long long)letters, each);
-    return !(letters == LETTERS && shallow <= 64 * 1024 && each <= 128);
+    base = used(nothing);
+    int ok = walks("contain", call, edition_contain_word);
+    ok &= walks("entry_offer", offer, edition_offer_word);
+    ok &= plain("entry_open", open_entry, EDITION_OPENED);
+    ok &= plain("entry_verdict", verdict, EDITION_YES);
+    return !ok;
 }
