@@ -1,0 +1,124 @@
+//! What the program answers, for people and for programs.
+
+use edition::{Argument, Refusal, Walk};
+
+use crate::json::Value;
+
+/// Contained, taken, opened, yes, shown.
+pub const YES: u8 = 0;
+/// Differs, forward, back, no.
+pub const NO: u8 = 1;
+/// One of document 01's refusals.
+pub const REFUSED: u8 = 2;
+/// Wrong use, or a file that cannot be read or written.
+pub const FAILED: u8 = 3;
+
+/// An answer: the exit status, one word for it, a text for people, and fields for programs.
+pub struct Answer {
+    pub status: u8,
+    pub word: &'static str,
+    pub text: String,
+    /// What is said besides, on standard error, where the text is fixed.
+    pub note: String,
+    pub fields: Vec<(&'static str, Value)>,
+}
+
+impl Answer {
+    pub fn new(status: u8, word: &'static str, text: String) -> Answer {
+        Answer {
+            status,
+            word,
+            text,
+            note: String::new(),
+            fields: Vec::new(),
+        }
+    }
+
+    /// The answer with one more field.
+    pub fn with(mut self, name: &'static str, value: Value) -> Answer {
+        self.fields.push((name, value));
+        self
+    }
+
+    /// The answer with one more field that is a number.
+    pub fn number(self, name: &'static str, number: impl Into<u64>) -> Answer {
+        self.with(name, Value::Number(number.into()))
+    }
+
+    /// The answer as one JSON object.
+    pub fn json(self, command: Option<&str>) -> Value {
+        let command = command.map_or(Value::Null, |name| Value::Text(name.into()));
+        let mut fields = vec![
+            ("command", command),
+            ("answer", Value::Text(self.word.into())),
+            ("status", Value::Number(self.status.into())),
+        ];
+        fields.extend(self.fields);
+        Value::Object(fields)
+    }
+}
+
+/// Why there is no other answer.
+pub enum Failure {
+    /// Wrong arguments.
+    Usage(String),
+    /// A file that cannot be read or written.
+    File(String),
+    /// A refusal of the checker.
+    Refused(Refusal),
+}
+
+impl From<Refusal> for Failure {
+    fn from(refusal: Refusal) -> Failure {
+        Failure::Refused(refusal)
+    }
+}
+
+impl Failure {
+    pub fn answer(self) -> Answer {
+        match self {
+            Failure::Usage(message) => {
+                Answer::new(FAILED, "usage", message.clone()).with("message", Value::Text(message))
+            }
+            Failure::File(message) => {
+                Answer::new(FAILED, "failed", message.clone()).with("message", Value::Text(message))
+            }
+            Failure::Refused(refusal) => refused(&refusal),
+        }
+    }
+}
+
+/// A refusal's answer: its number, what is wrong, and what to do about it.
+pub fn refused(refusal: &Refusal) -> Answer {
+    advised(refusal, refusal.advice())
+}
+
+/// As `refused`, with advice of the caller's own.
+pub fn advised(refusal: &Refusal, advice: String) -> Answer {
+    let text = format!("refused {}: {refusal}\nwhat to do: {advice}", refusal.number());
+    let mut answer = Answer::new(REFUSED, "refused", text).number("number", refusal.number());
+    if let Some(file) = refusal.file() {
+        answer = answer.number("file", if file == Argument::First { 1u8 } else { 2 });
+    }
+    if let Some(walk) = refusal.walk() {
+        let name = if walk == Walk::Forward { "forward" } else { "back" };
+        answer = answer.with("walk", Value::Text(name.into()));
+    }
+    answer = match *refusal {
+        Refusal::Slots { slots, .. } => answer.number("slots", slots),
+        Refusal::Word { needed, .. } => answer.number("needed", needed),
+        _ => answer,
+    };
+    answer
+        .with("reason", Value::Text(refusal.to_string()))
+        .with("advice", Value::Text(advice))
+}
+
+/// A word for people: its letters in decimal after single spaces.
+pub fn spelled(word: &[u8]) -> String {
+    if word.is_empty() {
+        return "the empty word".into();
+    }
+    let letters: Vec<String> = word.iter().map(u8::to_string).collect();
+    format!("word {}", letters.join(" "))
+}

@@ -1,0 +1,140 @@
+//! The command line, taken apart.
+
+use std::ffi::{OsStr, OsString};
+use std::path::Path;
+
+use crate::answer::Failure;
+
+/// The form in which the answer is wanted.
+#[derive(Clone, Copy, PartialEq, Eq)]
+pub enum Form {
+    Text,
+    Json,
+    Dot,
+}
+
+/// The words of the command line, options taken out.
+#[derive(Default)]
+pub struct Arguments {
+    /// The command's name and its operands.
+    pub words: Vec<OsString>,
+    pub help: bool,
+    pub slots: Option<u64>,
+    json: bool,
+    dot: bool,
+}
+
+impl Arguments {
+    /// Takes the options out, wherever they stand before a `--`.
+    pub fn parse(line: Vec<OsString>) -> Result<Arguments, Failure> {
+        let mut arguments = Arguments::default();
+        let mut rest = line.into_iter();
+        while let Some(word) = rest.next() {
+            match word.to_str() {
+                Some("--") => arguments.words.extend(rest.by_ref()),
+                Some("--slots") => {
+                    let value = rest.next().ok_or_else(|| usage("--slots needs a number after it"))?;
+                    arguments.slots = Some(number("--slots", &value)?);
+                }
+                Some(option) if option.len() > 1 && option.starts_with('-') => arguments.option(option)?,
+                _ => arguments.words.push(word),
+            }
+        }
+        if arguments.json && arguments.dot {
+            return Err(usage(
+                "--json and --dot ask for two forms of one answer: give one of them",
+            ));
+        }
+        Ok(arguments)
+    }
+
+    fn option(&mut self, option: &str) -> Result<(), Failure> {
+        match option {
+            "--json" => self.json = true,
+            "--dot" => self.dot = true,
+            "--help" | "-h" => self.help = true,
+            _ => match option.strip_prefix("--slots=") {
+                Some(value) => self.slots = Some(number("--slots", OsStr::new(value))?),
+                None => return Err(usage(&format!("there is no option {option}"))),
+            },
+        }
+        Ok(())
+    }
+
+    pub fn form(&self) -> Form {
+        match (self.json, self.dot) {
+            (true, _) => Form::Json,
+            (_, true) => Form::Dot,
+            _ => Form::Text,
+        }
+    }
+
+    /// The command's name.
+    pub fn name(&self) -> Option<&str> {
+        self.words.first().and_then(|word| word.to_str())
+    }
+
+    /// The operand of this place, counted from 1. The number of operands has been checked.
+    pub fn operand(&self, place: usize) -> &OsStr {
+        &self.words[place]
+    }
+
+    /// The operand as a path.
+    pub fn path(&self, place: usize) -> &Path {
+        Path::new(self.operand(place))
+    }
+
+    /// The operand as a bound.
+    pub fn bound(&self, place: usize) -> Result<u64, Failure> {
+        number("BOUND", self.operand(place))
+    }
+
+    /// The operand as a word: letters in decimal with commas between them; the empty word is empty.
+    ///
+    /// A letter above 255 stands as 255. No automaton has either, so the answer is the same.
+    pub fn letters(&self, name: &str, place: usize) -> Result<Vec<u8>, Failure> {
+        let text = self.operand(place);
+        if text.is_empty() {
+            return Ok(Vec::new());
+        }
+        let text = text.to_str().ok_or_else(|| not_letters(name))?;
+        let letters = text.split(',').map(|letter| number(name, OsStr::new(letter)));
+        letters
+            .map(|letter| {
+                letter
+                    .map(|number| number.min(255) as u8)
+                    .map_err(|_| not_letters(name))
+            })
+            .collect()
+    }
+}
+
+/// Whether the line asks for JSON: known even where the rest of it is wrong.
+pub fn asks_json(line: &[OsString]) -> bool {
+    line.iter()
+        .take_while(|word| *word != "--")
+        .any(|word| word == "--json")
+}
+
+pub fn usage(message: &str) -> Failure {
+    Failure::Usage(message.into())
+}
+
+fn not_letters(name: &str) -> Failure {
+    usage(&format!(
+        "{name} is letters in decimal with commas between them, such as 0,1,1; '' is the empty word"
+    ))
+}
+
+/// A number of decimal digits. One of 2^64 or more stands as the largest below it, which every limit refuses as well.
+fn number(name: &str, text: &OsStr) -> Result<u64, Failure> {
+    match text.to_str() {
+        Some(digits) if !digits.is_empty() && digits.bytes().all(|byte| byte.is_ascii_digit()) => {
+            Ok(digits.parse().unwrap_or(u64::MAX))
+        }
+        _ => Err(usage(&format!(
+            "{name} is a number such as 1, not '{}'",
+            text.to_string_lossy()
+        ))),
+    }
+}

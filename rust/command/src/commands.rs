@@ -1,0 +1,222 @@
+//! The commands: each reads its files, asks the kernel, and gives an answer.
+
+use edition::slots::{self, Slot};
+use edition::{Automaton, Buffers, Entry, Held, Offer, Outcome, Refusal, MAX_SLOTS};
+
+use crate::answer::{spelled, Answer, Failure, NO, YES};
+use crate::arguments::{Arguments, Form};
+use crate::graph::{self, Pair};
+use crate::json::Value;
+use crate::store::Store;
+use crate::{dot, files, listing};
+
+/// `listing FIRST OFFER BOUND`.
+pub fn list(arguments: &Arguments) -> Result<Answer, Failure> {
+    listing::answer(arguments.path(1), arguments.path(2), arguments.bound(3)?)
+}
+
+/// `contain FIRST SECOND BOUND`.
+pub fn contain(arguments: &Arguments) -> Result<Answer, Failure> {
+    let bound = arguments.bound(3)?;
+    let (first, second) = (files::whole(arguments.path(1))?, files::whole(arguments.path(2))?);
+    let slots = arguments
+        .slots
+        .map_or(MAX_SLOTS, |slots| slots.min(MAX_SLOTS as u64) as usize);
+    let mut buffers = Buffers::with_slots(slots);
+    let (count, word) = match buffers.contain(&first, &second, bound)? {
+        Outcome::Contained { count } => (count, None),
+        Outcome::Differs { count, word } => (count, Some(word.to_vec())),
+    };
+    let mut answer = match &word {
+        None => Answer::new(YES, "contained", format!("contained: {count} vertices")).number("count", count),
+        Some(word) => Answer::new(NO, "differs", format!("differs: place {count}, {}", spelled(word)))
+            .number("count", count)
+            .with("word", Value::numbers(word)),
+    };
+    if arguments.form() == Form::Dot {
+        let slots = slots::of_work(buffers.work(), count);
+        answer.text = walk_picture([&first, &second], bound as u8, &slots, word.as_deref())?;
+    }
+    Ok(answer)
+}
+
+/// The picture of a walk that the kernel has made; so the bound is at most 14.
+fn walk_picture(files: [&[u8]; 2], bound: u8, slots: &[Slot], word: Option<&[u8]>) -> Result<String, Failure> {
+    let (left, right) = (Automaton::from_file(files[0])?, Automaton::from_file(files[1])?);
+    let pair = Pair {
+        left: &left,
+        right: &right,
+        bound,
+    };
+    let graph = graph::of_walk(&pair, slots, word)
+        .ok_or_else(|| Failure::File("no picture: its edges do not fit the kernel's walk".into()))?;
+    Ok(dot::graph(&graph, right.states()))
+}
+
+/// `open STORE FILE`.
+pub fn open(arguments: &Arguments) -> Result<Answer, Failure> {
+    let file = files::whole(arguments.path(2))?;
+    let store = Store::at(arguments.path(1))?.lock()?;
+    let mut entry = store.entry_or_fresh()?;
+    entry.open(&file)?;
+    store.replace(&entry)?;
+    let held = held(&entry)?;
+    let text = format!("opened: edition {}, {} states", held.edition, held.automaton.states());
+    Ok(Answer::new(YES, "opened", text)
+        .number("edition", held.edition)
+        .number("states", held.automaton.states()))
+}
+
+/// `offer STORE FILE BOUND`.
+pub fn offer(arguments: &Arguments) -> Result<Answer, Failure> {
+    let bound = arguments.bound(3)?;
+    let file = files::whole(arguments.path(2))?;
+    let store = Store::at(arguments.path(1))?.lock()?;
+    let mut entry = store.entry()?;
+    let mut buffers = Buffers::largest();
+    match buffers.offer(&mut entry, &file, bound)? {
+        Offer::Taken { forward, back } => {
+            store.replace(&entry)?;
+            taken(&held(&entry)?, forward, back)
+        }
+        Offer::Forward { forward, word } => Ok(turned_down("forward", (forward, None), word)),
+        Offer::Back { forward, back, word } => Ok(turned_down("back", (forward, Some(back)), word)),
+    }
+}
+
+fn taken(held: &Held, forward: u16, back: u16) -> Result<Answer, Failure> {
+    let (edition, states, first) = (held.edition, held.automaton.states(), held.first_states);
+    let text = format!("taken: edition {edition}, states {states} of {first}, walks {forward} {back}");
+    Ok(Answer::new(YES, "taken", text)
+        .number("edition", edition)
+        .number("states", states)
+        .number("first_states", first)
+        .number("forward", forward)
+        .number("back", back))
+}
+
+/// The answer of an offer that is not taken: the walk that found a word, the walks' counts, the word.
+fn turned_down(walk: &'static str, (forward, back): (u16, Option<u16>), word: &[u8]) -> Answer {
+    let (shown, counts) = match back {
+        None => (
+            "the held automaton has a run on it that the offer does not match",
+            format!("walk {forward}"),
+        ),
+        Some(back) => (
+            "the offer has a run on it that the held automaton does not match",
+            format!("walks {forward} {back}"),
+        ),
+    };
+    let text = format!(
+        "{walk}: {counts}, {}\n{shown} within the bound; the entry is unchanged",
+        spelled(word)
+    );
+    Answer::new(NO, walk, text)
+        .number("forward", forward)
+        .with("back", back.map_or(Value::Null, |back| Value::Number(back.into())))
+        .with("word", Value::numbers(word))
+}
+
+/// `verdict STORE STEM LOOP`.
+pub fn verdict(arguments: &Arguments) -> Result<Answer, Failure> {
+    let (stem, turn) = (arguments.letters("STEM", 2)?, arguments.letters("LOOP", 3)?);
+    let entry = Store::at(arguments.path(1))?.entry()?;
+    Ok(match entry.verdict(&stem, &turn)? {
+        true => Answer::new(YES, "yes", "yes: the held automaton accepts the word".into()),
+        false => Answer::new(NO, "no", "no: the held automaton does not accept the word".into()),
+    })
+}
+
+/// `show FILE|STORE`.
+pub fn show(arguments: &Arguments) -> Result<Answer, Failure> {
+    let bytes = files::whole(arguments.path(1))?;
+    let draw = arguments.form() == Form::Dot;
+    if !is_store(&bytes) {
+        let automaton = Automaton::from_file(&bytes)?;
+        let answer = Answer::new(YES, "automaton", described(&automaton));
+        return Ok(shown(answer, &automaton, draw));
+    }
+    match Entry::from_bytes(&bytes)?.held() {
+        None if draw => Err(Failure::Refused(Refusal::Empty)),
+        None => Ok(Answer::new(YES, "empty", "entry: empty".into())),
+        Some(Held {
+            edition,
+            first_states,
+            automaton,
+        }) => {
+            let text = format!(
+                "entry: edition {edition}, first edition of {first_states} states\n{}",
+                described(&automaton)
+            );
+            let answer = Answer::new(YES, "entry", text)
+                .number("edition", edition)
+                .number("first_states", first_states);
+            Ok(shown(answer, &automaton, draw))
+        }
+    }
+}
+
+/// Whether the bytes are to be shown as a STORE: they begin as one does, or have its length and do not begin as an automaton file.
+fn is_store(bytes: &[u8]) -> bool {
+    match bytes.first() {
+        Some(0 | 1) => true,
+        Some(b'A') | None => false,
+        Some(_) => bytes.len() == edition::ENTRY_BYTES,
+    }
+}
+
+/// The answer with the automaton's fields, or its picture.
+fn shown(mut answer: Answer, automaton: &Automaton, draw: bool) -> Answer {
+    if draw {
+        answer.text = dot::automaton(automaton);
+    }
+    let transitions = automaton
+        .transitions()
+        .map(|(from, letter, to)| Value::numbers(&[from, letter, to]));
+    answer
+        .number("states", automaton.states())
+        .number("letters", automaton.letters())
+        .number("initial", automaton.initial())
+        .with("accepting", Value::numbers(&accepting(automaton)))
+        .with("dead", Value::numbers(&automaton.dead_states()))
+        .with("transitions", Value::List(transitions.collect()))
+}
+
+fn accepting(automaton: &Automaton) -> Vec<u8> {
+    (0..automaton.states())
+        .filter(|&state| automaton.accepts(state))
+        .collect()
+}
+
+/// The automaton in words, a line for each transition.
+fn described(automaton: &Automaton) -> String {
+    let list = |states: Vec<u8>| match states.is_empty() {
+        true => "none".into(),
+        false => states.iter().map(u8::to_string).collect::<Vec<_>>().join(" "),
+    };
+    let transitions: Vec<String> = automaton
+        .transitions()
+        .map(|(from, letter, to)| format!("\n{from} on {letter} to {to}"))
+        .collect();
+    let dead = automaton.dead_states();
+    let refused = if dead.is_empty() {
+        ""
+    } else {
+        " (contain, open and offer refuse this automaton with 6)"
+    };
+    format!(
+        "automaton: {} states, {} letters, {} transitions\ninitial: {}\naccepting: {}\ndead: {}{refused}{}",
+        automaton.states(),
+        automaton.letters(),
+        transitions.len(),
+        automaton.initial(),
+        list(accepting(automaton)),
+        list(dead),
+        transitions.concat()
+    )
+}
+
+/// What the entry holds after a call that opened it or took an offer.
+fn held(entry: &Entry) -> Result<Held, Failure> {
+    entry.held().ok_or(Failure::Refused(Refusal::Empty))
+}

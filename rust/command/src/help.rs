@@ -1,0 +1,122 @@
+//! The commands' names, operands and help texts.
+
+use crate::answer::{Answer, Failure};
+use crate::arguments::Arguments;
+use crate::commands;
+
+/// A command of the program.
+pub struct Command {
+    pub name: &'static str,
+    pub operands: &'static [&'static str],
+    pub slots: bool,
+    pub dot: bool,
+    about: &'static str,
+    examples: &'static str,
+    pub run: fn(&Arguments) -> Result<Answer, Failure>,
+}
+
+impl Command {
+    /// The command with its operands and options.
+    pub fn usage(&self) -> String {
+        let slots = if self.slots { " [--slots N]" } else { "" };
+        let forms = if self.dot { " [--json | --dot]" } else { " [--json]" };
+        format!("edition {} {}{slots}{forms}", self.name, self.operands.join(" "))
+    }
+
+    /// The command's own help.
+    pub fn help(&self) -> String {
+        format!(
+            "usage: {}\n\n{}\n\n{STATUS}\n\nexamples:\n{}",
+            self.usage(),
+            self.about,
+            self.examples
+        )
+    }
+}
+
+/// The help on everything.
+pub fn all() -> String {
+    let usages: Vec<String> = COMMANDS
+        .iter()
+        .map(|command| format!("  {}", command.usage()))
+        .collect();
+    let examples: Vec<&str> = COMMANDS.iter().map(|command| command.examples).collect();
+    format!(
+        "Asks the proved Büchi edition checker.\n\nusage:\n{}\n\n{OPERANDS}\n\n{STATUS}\n\nexamples:\n{}\n\n\
+         edition COMMAND --help says more of a command.",
+        usages.join("\n"),
+        examples.join("\n")
+    )
+}
+
+const OPERANDS: &str = "\
+FIRST, SECOND, OFFER and FILE are automaton files; a STORE is a file that holds one entry.
+BOUND is a number from 0 to 14. STEM and LOOP are letters with commas between them, such as 0,1,1; '' is the empty stem.
+--json gives the answer as a JSON object, wrong use included; --dot gives a picture in Graphviz's language;
+words after -- are no options.";
+
+const STATUS: &str = "\
+exit status: 0 contained, taken, opened, yes, shown; 1 differs, forward, back, no; 2 refused, with the number and what to do;
+3 wrong use, or a file that cannot be read or written.";
+
+pub const COMMANDS: [Command; 6] = [
+    Command {
+        name: "listing",
+        operands: &["FIRST", "OFFER", "BOUND"],
+        slots: false,
+        dot: false,
+        about: "Opens a fresh entry with FIRST, offers it OFFER and prints the proved program's line: the outcome, the edition, the\n\
+                held and the first states, the percent saved, the two walks' counts and the word. Stores nothing.",
+        examples: "  ./edition listing examples/f.ba examples/g.ba 1",
+        run: commands::list,
+    },
+    Command {
+        name: "contain",
+        operands: &["FIRST", "SECOND", "BOUND"],
+        slots: true,
+        dot: true,
+        about: "Says whether every run prefix of FIRST has one of SECOND on the same word with lag at most BOUND: contained, with the\n\
+                number of vertices walked, or differs, with the place of the final vertex and a word that shows it. The walk has N\n\
+                slots, at most 4,096. --dot draws the lag-checking graph, with the path to the final vertex in red.",
+        examples: "  ./edition contain examples/g.ba examples/f.ba 0\n  \
+                   ./edition contain examples/g.ba examples/f.ba 0 --dot | dot -Tsvg > walk.svg",
+        run: commands::contain,
+    },
+    Command {
+        name: "open",
+        operands: &["STORE", "FILE"],
+        slots: false,
+        dot: false,
+        about: "Makes FILE the first edition of the entry in STORE. A STORE that does not exist is made.",
+        examples: "  ./edition open entry.store examples/f.ba",
+        run: commands::open,
+    },
+    Command {
+        name: "offer",
+        operands: &["STORE", "FILE", "BOUND"],
+        slots: false,
+        dot: false,
+        about: "Offers FILE as a smaller edition of the entry in STORE: taken, or forward or back with the word that shows why not.\n\
+                STORE changes only if the offer is taken, and then whole: a kill or another offer at the same time loses nothing.",
+        examples: "  ./edition offer entry.store examples/g.ba 1",
+        run: commands::offer,
+    },
+    Command {
+        name: "verdict",
+        operands: &["STORE", "STEM", "LOOP"],
+        slots: false,
+        dot: false,
+        about: "Says whether the automaton in STORE accepts the letters of STEM followed by those of LOOP without end.",
+        examples: "  ./edition verdict entry.store '' 0,1\n  ./edition verdict entry.store 1 0",
+        run: commands::verdict,
+    },
+    Command {
+        name: "show",
+        operands: &["FILE|STORE"],
+        slots: false,
+        dot: true,
+        about: "Shows the automaton in a file, dead states marked, or the entry in a STORE. --dot draws the automaton.",
+        examples: "  ./edition show examples/g.ba\n  ./edition show entry.store --dot | dot -Tsvg > entry.svg",
+        run: commands::show,
+    },
+];

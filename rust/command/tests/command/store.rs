@@ -1,0 +1,263 @@
+//! What a STORE is after kills, faults of the disk, damage and several offers at once.
+
+use std::fs::{self, Permissions};
+use std::os::unix::fs::{symlink, PermissionsExt};
+use std::process::{Child, Command};
+
+use crate::folder::{Folder, Run};
+
+/// An accepting state with a loop, of so many states: those behind it are not reached. Each is an edition of every larger one.
+fn padded(states: u8) -> Vec<u8> {
+    [b"AH".as_slice(), &[states], b"\x01\x00AF\x00AT\x00\x00\x00AE"].concat()
+}
+
+/// A folder with a STORE that holds F.
+fn with_store(test: &str) -> Folder {
+    let folder = Folder::new(test);
+    folder.answers("open s f.ba", 0, "opened: edition 0, 4 states");
+    folder
+}
+
+fn finished(run: Child) -> Run {
+    Run::of(run.wait_with_output().expect("a run"))
+}
+
+/// The library that stops a program, compiled.
+fn stopper(folder: &Folder) -> std::path::PathBuf {
+    let library = folder.path("stop.so");
+    let source = concat!(env!("CARGO_MANIFEST_DIR"), "/tests/command/stop.c");
+    let mut compiler = Command::new("cc");
+    compiler
+        .args([
+            "-std=c99", "-Wall", "-Wextra", "-Werror", "-O1", "-shared", "-fPIC", "-o",
+        ])
+        .arg(&library)
+        .arg(source);
+    assert!(compiler.status().expect("a C compiler").success());
+    library
+}
+
+/// Offers G to a STORE that holds F, stopped at each of its calls in turn until one is stopped at none. Gives the runs that
+/// were stopped, with the status that they should have, and whether the STORE has G after them.
+fn stopped(test: &str, how: &str, status: i32) -> Vec<(Run, bool)> {
+    let folder = with_store(test);
+    let library = stopper(&folder);
+    let old = folder.read("s");
+    folder.answers("offer s g.ba 1", 0, "taken: edition 1, states 3 of 4, walks 5 8");
+    let new = folder.read("s");
+    let mut runs = Vec::new();
+    loop {
+        let call = runs.len() + 1;
+        folder.write("s", &old);
+        let mut command = folder.command(&["offer", "s", "g.ba", "1"]);
+        command
+            .env("LD_PRELOAD", &library)
+            .env("STOP_AT", format!("{call}"))
+            .env("STOP_HOW", how);
+        let run = Run::of(command.output().expect("a run"));
+        let left = folder.read("s");
+        assert!(
+            left == old || left == new,
+            "call {call} left a STORE that nobody wrote: {run:?}"
+        );
+        if run.status == 0 {
+            assert!(left == new, "call {call}: {run:?}");
+            return runs;
+        }
+        assert_eq!(run.status, status, "call {call}: {run:?}");
+        let again = folder.run(&["offer", "s", "g.ba", "1"]);
+        assert_eq!(again.status, if left == new { 2 } else { 0 }, "call {call}: {again:?}");
+        assert!(
+            folder.read("s") == new && folder.names("s.") == ["s.lock"],
+            "call {call}"
+        );
+        runs.push((run, left == new));
+    }
+}
+
+/// The calls open the offer, the lock, the STORE and the unfinished file, remove what a run before left, set permissions, write,
+/// sync and rename, then sync the folder and print.
+#[test]
+fn a_kill_at_any_call_leaves_the_old_entry_or_the_new_one() {
+    let runs = stopped("kill", "kill", -1);
+    let renamed = runs.iter().position(|&(_, new)| new).expect("a kill after the rename");
+    assert!(renamed >= 6 && runs[renamed..].iter().all(|&(_, new)| new), "{runs:?}");
+}
+
+#[test]
+fn a_fault_of_the_disk_is_told_and_leaves_the_old_entry_or_says_that_it_is_replaced() {
+    let runs = stopped("fault", "fail", 3);
+    for (run, new) in &runs {
+        let replaced = run.err.contains("is replaced, but") || run.err.contains("cannot write the answer");
+        assert_eq!(replaced, *new, "{run:?}");
+    }
+    let (full, unsynced) = ("No space left on device", "Input/output error");
+    for (text, fault) in [
+        ("s.unfinished", full),
+        ("s.unfinished", unsynced),
+        ("is replaced, but", unsynced),
+    ] {
+        assert!(
+            runs.iter()
+                .any(|(run, _)| run.err.contains(text) && run.err.contains(fault)),
+            "{text}: {fault}: {runs:?}"
+        );
+    }
+}
+
+#[test]
+fn what_a_killed_run_left_is_written_again() {
+    let folder = with_store("leftover");
+    folder.write("s.unfinished", &[7; 5000]);
+    folder.answers("verdict s  0,1", 0, "yes: the held automaton accepts the word");
+    folder.answers("offer s g.ba 1", 0, "taken: edition 1, states 3 of 4, walks 5 8");
+    folder.answers("show s", 0, "entry: edition 1, first edition of 4 states");
+    assert_eq!(folder.names("s"), ["s", "s.lock"]);
+}
+
+#[test]
+fn two_offers_at_once_lose_nothing() {
+    let folder = Folder::new("two_offers");
+    for states in 1..=3 {
+        folder.write(&format!("{states}.ba"), &padded(states));
+    }
+    for round in 0..100 {
+        let _ = fs::remove_file(folder.path("s"));
+        folder.answers("open s 3.ba", 0, "opened: edition 0, 3 states");
+        let order = if round % 2 == 0 {
+            ["2.ba", "1.ba"]
+        } else {
+            ["1.ba", "2.ba"]
+        };
+        let runs = order.map(|file| folder.start(&["offer", "s", file, "0"]));
+        let mut runs = runs.map(|run| finished(run).out);
+        if round % 2 == 1 {
+            runs.reverse();
+        }
+        let shown = folder.run(&["show", "s"]).out;
+        let two_first = runs[0].starts_with("taken: edition 1, states 2 of 3")
+            && runs[1].starts_with("taken: edition 2, states 1 of 3");
+        let one_first = runs[0].starts_with("refused 14: ") && runs[1].starts_with("taken: edition 1, states 1 of 3");
+        assert!(two_first || one_first, "round {round}: {runs:?}");
+        let edition = if two_first { 2 } else { 1 };
+        assert!(
+            shown.starts_with(&format!(
+                "entry: edition {edition}, first edition of 3 states\nautomaton: 1 states"
+            )),
+            "{shown}"
+        );
+    }
+}
+
+#[test]
+fn many_offers_at_once_are_all_counted_and_readers_see_whole_entries() {
+    let folder = Folder::new("many_offers");
+    for states in 1..=32 {
+        folder.write(&format!("{states}.ba"), &padded(states));
+    }
+    for _ in 0..5 {
+        let _ = fs::remove_file(folder.path("s"));
+        folder.answers("open s 32.ba", 0, "opened: edition 0, 32 states");
+        let files: Vec<String> = (1..32).rev().map(|states| format!("{states}.ba")).collect();
+        let offers: Vec<Child> = files
+            .iter()
+            .map(|file| folder.start(&["offer", "s", file, "0"]))
+            .collect();
+        let readers: Vec<Child> = (0..20).map(|_| folder.start(&["show", "s"])).collect();
+        for reader in readers {
+            let shown = finished(reader);
+            assert!(
+                shown.status == 0 && shown.out.starts_with("entry: edition "),
+                "{shown:?}"
+            );
+        }
+        let runs: Vec<Run> = offers.into_iter().map(finished).collect();
+        let taken = runs.iter().filter(|run| run.out.starts_with("taken: ")).count();
+        let turned_down = runs.iter().filter(|run| run.out.starts_with("refused 14: ")).count();
+        assert!(taken >= 1 && taken + turned_down == 31, "{runs:?}");
+        folder.answers(
+            "show s",
+            0,
+            &format!("entry: edition {taken}, first edition of 32 states"),
+        );
+    }
+}
+
+#[test]
+fn of_two_opens_at_once_one_opens() {
+    let folder = Folder::new("two_opens");
+    for _ in 0..50 {
+        let _ = fs::remove_file(folder.path("s"));
+        let runs = ["f.ba", "g.ba"]
+            .map(|file| folder.start(&["open", "s", file]))
+            .map(finished);
+        let mut statuses = runs.each_ref().map(|run| run.status);
+        statuses.sort();
+        assert_eq!(statuses, [0, 2], "{runs:?}");
+        assert!(runs.iter().any(|run| run.out.starts_with("refused 12: ")), "{runs:?}");
+    }
+}
+
+#[test]
+fn a_damaged_store_is_refused_with_9_or_answered_as_the_bytes_say() {
+    let folder = with_store("damage");
+    let sound = folder.read("s");
+    let mut refused = 0;
+    for place in 0..sound.len() {
+        let mut bytes = sound.clone();
+        bytes[place] ^= 1;
+        folder.write("s", &bytes);
+        let run = folder.run(&["verdict", "s", "", "0"]);
+        let wanted = match second::entry_verdict(&bytes, &[], &[0]) {
+            0 => (1, "no: "),
+            1 => (0, "yes: "),
+            113 => (2, "refused 13: "),
+            _ => (2, "refused 9: "),
+        };
+        assert!(
+            run.status == wanted.0 && run.out.starts_with(wanted.1),
+            "byte {place}: {run:?}"
+        );
+        refused += usize::from(run.out.starts_with("refused 9: "));
+    }
+    assert!((1..sound.len()).contains(&refused), "{refused}");
+}
+
+#[test]
+fn no_command_changes_a_damaged_store() {
+    let folder = with_store("damage_stays");
+    let sound = folder.read("s");
+    let longer = [sound.as_slice(), &[0]].concat();
+    let mut forged = sound.clone();
+    forged[1] = 33;
+    let mut tagged = sound.clone();
+    tagged[0] = 2;
+    for bytes in [&[], &sound[..2060], &longer, &forged, &tagged] {
+        folder.write("s", bytes);
+        for words in ["open s f.ba", "offer s g.ba 1", "verdict s 0 0"] {
+            let run = folder.run(&words.split(' ').collect::<Vec<_>>());
+            assert!(
+                run.status == 2 && run.out.starts_with("refused 9: "),
+                "{words}: {run:?}"
+            );
+        }
+        let shown = folder.run(&["show", "s"]);
+        assert!(shown.status == 2, "{shown:?}");
+        assert_eq!(folder.read("s"), bytes);
+    }
+}
+
+#[test]
+fn a_link_stays_a_link_and_permissions_stay() {
+    let folder = with_store("link");
+    fs::set_permissions(folder.path("s"), Permissions::from_mode(0o640)).expect("permissions");
+    symlink("s", folder.path("link")).expect("a link");
+    folder.answers("offer link g.ba 1", 0, "taken: edition 1, states 3 of 4, walks 5 8");
+    folder.answers("show s", 0, "entry: edition 1, first edition of 4 states");
+    assert!(folder.path("link").is_symlink());
+    assert_eq!(
+        fs::metadata(folder.path("s")).expect("the STORE").permissions().mode() & 0o777,
+        0o640
+    );
+    assert_eq!(folder.names("link"), ["link"]);
+}

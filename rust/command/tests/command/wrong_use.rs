@@ -1,0 +1,190 @@
+//! Wrong arguments, files that cannot be read, and answers that cannot be written: status 3.
+
+use std::ffi::OsStr;
+use std::fs::{self, OpenOptions};
+use std::os::unix::ffi::OsStrExt;
+use std::os::unix::fs::symlink;
+
+use crate::folder::{Folder, Run};
+
+/// Runs the words; the status is 3, nothing stands on standard output, and the message has this text.
+fn fails(folder: &Folder, words: &str, text: &str) {
+    let run = folder.run(&words.split(' ').filter(|word| !word.is_empty()).collect::<Vec<_>>());
+    assert!(
+        run.status == 3 && run.out.is_empty() && run.err.contains(text),
+        "{words}: {run:?}"
+    );
+}
+
+/// Wrong lines, and what is said of them.
+const WRONG: [(&str, &str); 14] = [
+    ("", "usage:"),
+    (
+        "close s",
+        "there is no command close; the commands are listing, contain, open, offer, verdict, show",
+    ),
+    (
+        "contain f.ba g.ba",
+        "contain takes 3 operands, not 2\nusage: edition contain FIRST SECOND BOUND",
+    ),
+    ("contain f.ba g.ba 1 1", "contain takes 3 operands, not 4"),
+    ("contain f.ba g.ba one", "BOUND is a number such as 1, not 'one'"),
+    ("contain f.ba g.ba +1", "BOUND is a number such as 1, not '+1'"),
+    ("contain f.ba g.ba -1", "there is no option -1"),
+    ("contain f.ba g.ba 1 --slot 3", "there is no option --slot"),
+    ("contain f.ba g.ba 1 --slots", "--slots needs a number after it"),
+    (
+        "contain f.ba g.ba 1 --slots=x",
+        "--slots is a number such as 1, not 'x'",
+    ),
+    ("show f.ba --slots 3", "show takes no --slots"),
+    ("offer s f.ba 1 --dot", "offer draws no picture"),
+    ("verdict s 0;1 0", "STEM is letters in decimal with commas between them"),
+    ("verdict s 0 0,", "LOOP is letters in decimal with commas between them"),
+];
+
+#[test]
+fn wrong_arguments_are_told() {
+    let folder = Folder::new("wrong_arguments");
+    for (words, text) in WRONG {
+        fails(&folder, words, text);
+    }
+    assert_eq!(folder.names("s"), [""; 0]);
+}
+
+#[test]
+fn missing_and_unreadable_files_are_told() {
+    let folder = Folder::new("unreadable");
+    // A folder stands for a file that cannot be read: root may read every file.
+    fs::create_dir(folder.path("d")).expect("a folder");
+    for name in ["none.ba", "d"] {
+        let text = format!("cannot read {name}: ");
+        for words in [
+            "listing NAME g.ba 1",
+            "listing f.ba NAME 1",
+            "contain NAME g.ba 1",
+            "contain f.ba NAME 1",
+        ] {
+            fails(&folder, &words.replace("NAME", name), &text);
+        }
+        for words in ["open s NAME", "offer s NAME 1", "show NAME"] {
+            fails(&folder, &words.replace("NAME", name), &text);
+        }
+    }
+    fails(&folder, "offer none g.ba 1", "none");
+    fails(&folder, "verdict none 0 0", "cannot read none: ");
+    fails(&folder, "open d f.ba", "cannot read ");
+    fails(&folder, "open none/s f.ba", "cannot open none/s.lock: ");
+    assert_eq!(folder.names("s"), [""; 0]);
+}
+
+#[test]
+fn listing_needs_the_proved_program() {
+    let folder = Folder::new("no_program");
+    let words = ["listing", "f.ba", "g.ba", "1"];
+    for (program, text) in [
+        ("/none/listing", "cannot run /none/listing: "),
+        ("echo", "the program listing printed ''"),
+    ] {
+        let run = Run::of(
+            folder
+                .command(&words)
+                .env("EDITION_LISTING", program)
+                .output()
+                .expect("a run"),
+        );
+        assert!(
+            run.status == 3 && run.out.is_empty() && run.err.contains(text),
+            "{run:?}"
+        );
+    }
+    let run = Run::of(
+        folder
+            .command(&words)
+            .env_remove("EDITION_LISTING")
+            .output()
+            .expect("a run"),
+    );
+    assert!(
+        run.status == 3 && run.err.contains("EDITION_LISTING does not name the program"),
+        "{run:?}"
+    );
+}
+
+#[test]
+fn an_endless_file_is_not_read_to_its_end() {
+    let folder = Folder::new("endless");
+    fails(&folder, "show /dev/zero", "is longer than any automaton file");
+    fails(&folder, "contain /dev/zero g.ba 1", "is longer than any automaton file");
+    let run = folder.run(&["verdict", "/dev/zero", "", "0"]);
+    assert!(run.status == 2 && run.out.starts_with("refused 9: "), "{run:?}");
+}
+
+#[test]
+fn a_stores_name_is_none_of_the_files_beside_it() {
+    let folder = Folder::new("names");
+    fails(
+        &folder,
+        "open s.lock f.ba",
+        "names that end in .lock or .unfinished are for files beside a STORE",
+    );
+    fails(
+        &folder,
+        "open s.unfinished f.ba",
+        "names that end in .lock or .unfinished are for files beside a STORE",
+    );
+    symlink("nowhere", folder.path("link")).expect("a link");
+    fails(&folder, "open link f.ba", "cannot read link: ");
+}
+
+#[test]
+fn an_answer_that_cannot_be_written_is_told() {
+    let folder = Folder::new("full");
+    for form in ["--json", "--dot"] {
+        let full = OpenOptions::new()
+            .write(true)
+            .open("/dev/full")
+            .expect("the full device");
+        let mut command = folder.command(&["contain", "f.ba", "g.ba", "1", form]);
+        let run = Run::of(command.stdout(full).output().expect("a run"));
+        assert!(
+            run.status == 3 && run.err.contains("cannot write the answer"),
+            "{run:?}"
+        );
+    }
+}
+
+#[test]
+fn names_need_not_be_text_nor_differ_from_options() {
+    let folder = Folder::new("odd_names");
+    let odd = OsStr::from_bytes(b"a\xFF.ba");
+    fs::copy(folder.path("f.ba"), folder.path("f.ba").with_file_name(odd)).expect("a copy");
+    fs::copy(folder.path("f.ba"), folder.path("--json")).expect("a copy");
+    assert_eq!(folder.run(&[OsStr::new("show"), odd]).status, 0);
+    let shown = folder.run(&["show", "--", "--json"]);
+    assert!(shown.out.starts_with("automaton: 4 states"), "{shown:?}");
+    let unknown = folder.run(&[odd]);
+    assert!(
+        unknown.status == 3 && unknown.err.contains("there is no command"),
+        "{unknown:?}"
+    );
+}
+
+#[test]
+fn help_names_every_command_and_has_examples() {
+    let folder = Folder::new("help");
+    let all = folder.run(&["--help"]);
+    assert!(all.status == 0 && all.err.is_empty(), "{all:?}");
+    for command in ["listing", "contain", "open", "offer", "verdict", "show"] {
+        let one = folder.run(&[command, "--help"]);
+        let example = format!("  ./edition {command} ");
+        assert!(
+            all.out.contains(&format!("  edition {command} ")) && all.out.contains(&example),
+            "{command}"
+        );
+        assert!(
+            one.status == 0 && one.out.contains(&example) && one.out.contains("exit status: 0 "),
+            "{one:?}"
+        );
+    }
+}
