@@ -61,11 +61,12 @@ pub fn image(relation: &Relation, set: StateSet) -> StateSet {
     members(set).fold(0, |image, state| image | relation[state])
 }
 
-/// The transitive closure: `q` is related to what it reaches in one or more steps.
-pub fn closure(mut relation: Relation) -> Relation {
-    for middle in 0..MAX_STATES {
-        let onward = relation[middle];
-        for row in &mut relation {
+/// The transitive closure of a relation on the first `states` states: `q` is related to what it reaches in one or more steps.
+pub fn closure(mut relation: Relation, states: usize) -> Relation {
+    let rows = &mut relation[..states];
+    for middle in 0..states {
+        let onward = rows[middle];
+        for row in rows.iter_mut() {
             if contains(*row, middle) {
                 *row |= onward;
             }
@@ -143,7 +144,8 @@ impl Automaton {
 
     /// Number of transitions.
     pub fn transition_count(&self) -> u32 {
-        let rows = self.transitions.iter().flatten();
+        let relations = self.transitions[..self.letters()].iter();
+        let rows = relations.flat_map(|relation| &relation[..self.states()]);
         rows.map(|row| row.count_ones()).sum()
     }
 
@@ -178,5 +180,23 @@ impl Automaton {
         let before = *row;
         *row |= singleton(to.into());
         *row != before
+    }
+
+    /// Makes the states of a set accepting, and no others.
+    ///
+    /// # Panics
+    /// If the automaton lacks a state of the set.
+    pub fn set_accepting(&mut self, set: StateSet) {
+        assert!(set & !self.all_states() == 0);
+        self.accepting = set;
+    }
+
+    /// Makes the states of a set the targets of a state on a letter, and no others.
+    ///
+    /// # Panics
+    /// If the automaton lacks the state, the letter or a state of the set.
+    pub fn set_targets(&mut self, from: u8, letter: u8, set: StateSet) {
+        assert!(self.has_state(from) && self.has_letter(letter) && set & !self.all_states() == 0);
+        self.transitions[usize::from(letter)][usize::from(from)] = set;
     }
 }

@@ -5,7 +5,7 @@ use crate::refusal::Refusal;
 
 /// The dead states. An unreachable state is never dead.
 pub fn dead_states(automaton: &Automaton) -> StateSet {
-    let onward = closure(automaton.edges());
+    let onward = closure(automaton.edges(), automaton.states());
     let reached = |state: usize| singleton(state) | onward[state];
     let goals = members(automaton.accepting())
         .filter(|&state| contains(onward[state], state))

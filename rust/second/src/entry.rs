@@ -5,7 +5,7 @@
 //! 1 number of states, 2 number of letters, 3 initial state, 4 first states; 5-8 edition number, low byte first; 9-12 accepting
 //! set; 13-2060 transitions, byte `(q * 16 + a) * 4 + r / 8`, bit `r % 8`. Bytes that are no entry value are condition 9.
 
-use crate::automaton::{members, Automaton, MAX_LETTERS, MAX_STATES};
+use crate::automaton::{Automaton, MAX_LETTERS, MAX_STATES};
 use crate::contain::check_letters;
 use crate::dead;
 use crate::file;
@@ -224,9 +224,7 @@ impl Edition {
         if accepting & outside != 0 {
             return None;
         }
-        for state in members(accepting) {
-            automaton.add_accepting(state as u8);
-        }
+        automaton.set_accepting(accepting);
         for (from, rows) in bytes[TRANSITIONS..].chunks_exact(STATE_BYTES).enumerate() {
             for (letter, row) in rows.chunks_exact(4).enumerate() {
                 let targets = u32::from_le_bytes(row.try_into().expect("four bytes"));
@@ -238,9 +236,7 @@ impl Edition {
                 if used_outside || !automaton.has_state(from) || !automaton.has_letter(letter) {
                     return None;
                 }
-                for to in members(targets) {
-                    automaton.add_transition(from, letter, to as u8);
-                }
+                automaton.set_targets(from, letter, targets);
             }
         }
         dead::check(&automaton).ok()?;

@@ -13,28 +13,34 @@ pub const MAX_LASSO: usize = 4096;
 /// word of the automaton within the limits.
 pub fn verdict(automaton: &Automaton, stem: &[u8], turn: &[u8]) -> Result<bool, Refusal> {
     let lengths = stem.len() <= MAX_LASSO && (1..=MAX_LASSO).contains(&turn.len());
-    let outside = |&letter: &u8| !automaton.has_letter(letter);
-    if !lengths || stem.iter().chain(turn).any(outside) {
+    if !lengths || !has_letters(automaton, stem) || !has_letters(automaton, turn) {
         return Err(Refusal::Lasso);
     }
-    Ok(accepts(automaton, stem, turn))
+    Ok(recurs(automaton, stem, turn))
+}
+
+/// Has the automaton every letter of the word?
+fn has_letters(automaton: &Automaton, word: &[u8]) -> bool {
+    word.iter().all(|&letter| automaton.has_letter(letter))
 }
 
 /// Does the automaton accept the lasso word? The turn is not empty; its length and the stem's have no limit. No run reads a
 /// letter outside, so a word with one is not accepted.
 pub fn accepts(automaton: &Automaton, stem: &[u8], turn: &[u8]) -> bool {
-    let outside = |&letter: &u8| !automaton.has_letter(letter);
-    if turn.is_empty() || stem.iter().chain(turn).any(outside) {
-        return false;
-    }
+    let known = has_letters(automaton, stem) && has_letters(automaton, turn);
+    !turn.is_empty() && known && recurs(automaton, stem, turn)
+}
+
+/// Does some run on the lasso word, whose letters the automaton has, meet an accepting state again and again?
+fn recurs(automaton: &Automaton, stem: &[u8], turn: &[u8]) -> bool {
     let after_stem = stem.iter().fold(singleton(automaton.initial()), |states, &letter| {
         image(automaton.transitions(letter.into()), states)
     });
     let turns = Turns::new(automaton, turn);
-    let onward = closure(turns.reached);
+    let onward = closure(turns.reached, automaton.states());
     let before_loop = after_stem | image(&onward, after_stem);
-    let recurs = |start: usize| members(turns.met[start]).any(|end| contains(onward[end], start));
-    members(before_loop).any(recurs)
+    let returns = |start: usize| members(turns.met[start]).any(|end| contains(onward[end], start));
+    members(before_loop).any(returns)
 }
 
 /// The runs on one turn, by their first and last states.

@@ -2,7 +2,7 @@
 //!
 //! The proved checker is compared with this one. So nothing here is taken from the proved code or from its definitions: the two
 //! agree where both agree with the document. It is plain safe Rust without dependencies, written for speed: state sets are bits
-//! of a `u32`, the listed vertices of a walk stand in a hash set, a vertex's counters are the digits of one `u128`.
+//! of a `u32`, the listed vertices of a walk are found by a hash table, a vertex's counters are the digits of one `u128`.
 //!
 //! One module for each chapter of the document:
 //!

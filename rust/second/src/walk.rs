@@ -6,9 +6,6 @@
 //! that have none yet, and so on. This does not depend on the left target, except that an accepting one lowers the counters of
 //! states that do not accept. So each letter has two successor counters at most, whatever the number of left targets.
 
-use std::collections::HashSet;
-use std::hash::{BuildHasherDefault, Hasher};
-
 use crate::automaton::{contains, image, members, Automaton, Relation, StateSet};
 use crate::refusal::Refusal;
 
@@ -72,7 +69,7 @@ pub fn walk(left: &Automaton, right: &Automaton, bound: u8, work: &mut [u8], wor
 }
 
 /// A left state and the counters of the right-hand states.
-#[derive(Clone, Copy, PartialEq, Eq, Hash)]
+#[derive(Clone, Copy, PartialEq, Eq)]
 struct Vertex {
     left: u8,
     counters: Counters,
@@ -97,10 +94,11 @@ fn spread(bits: u32) -> u64 {
     (bits | bits << 3) & 0x1111_1111_1111_1111
 }
 
-/// The states by their counters: `levels[c]` holds the states whose counter is `c`.
-fn levels(counters: Counters) -> [StateSet; 16] {
+/// The first `states` states by their counters: `levels[c]` holds those whose counter is `c`.
+fn levels(counters: Counters, states: usize) -> [StateSet; 16] {
     let mut levels = [0; 16];
-    for (pair, digits) in counters.to_le_bytes().into_iter().enumerate() {
+    let pairs = states.div_ceil(2);
+    for (pair, digits) in counters.to_le_bytes()[..pairs].iter().enumerate() {
         levels[usize::from(digits & 15)] |= 1 << (2 * pair);
         levels[usize::from(digits >> 4)] |= 2 << (2 * pair);
     }
@@ -160,18 +158,19 @@ struct Discovery<'a> {
     work: &'a mut [u8],
     slots: usize,
     list: Vec<Vertex>,
-    listed: HashSet<Vertex, BuildHasherDefault<VertexHasher>>,
+    /// A hash table with open addressing: the place of a listed vertex plus 1, or 0. At least half of it stays 0.
+    index: Vec<u16>,
 }
 
 impl<'a> Discovery<'a> {
-    /// An empty list with room for every slot.
+    /// An empty list.
     fn new(work: &'a mut [u8]) -> Discovery<'a> {
         let slots = slots(work.len());
         Discovery {
             work,
             slots,
-            list: Vec::with_capacity(slots),
-            listed: HashSet::with_capacity_and_hasher(slots, BuildHasherDefault::default()),
+            list: Vec::new(),
+            index: vec![0; (2 * slots).next_power_of_two()],
         }
     }
 
@@ -193,7 +192,7 @@ impl<'a> Discovery<'a> {
     /// Appends the successors of a listed vertex, letters upwards and left targets upwards.
     fn append_successors(&mut self, left: &Automaton, right: &Automaton, bound: u8, parent: usize) -> Result<(), End> {
         let vertex = self.list[parent];
-        let levels = levels(vertex.counters);
+        let levels = levels(vertex.counters, right.states());
         for letter in 0..left.letters() {
             let targets = left.transitions(letter)[usize::from(vertex.left)];
             if targets == 0 {
@@ -221,17 +220,40 @@ impl<'a> Discovery<'a> {
         if vertex.counters == 0 {
             return Err(End::Final(origin));
         }
-        if !self.listed.insert(vertex) {
+        let Some(entry) = self.free_entry(vertex) else {
             return Ok(());
-        }
+        };
         let place = self.list.len();
         if place == self.slots {
             return Err(End::Full);
         }
         write_slot(&mut self.work[place * SLOT_BYTES..][..SLOT_BYTES], vertex, origin);
         self.list.push(vertex);
+        self.index[entry] = place as u16 + 1;
         Ok(())
     }
+
+    /// The entry of the index that is to hold the vertex, unless it is listed.
+    fn free_entry(&self, vertex: Vertex) -> Option<usize> {
+        let last = self.index.len() - 1;
+        let mut entry = hash(vertex) & last;
+        while let Some(place) = self.index[entry].checked_sub(1) {
+            if self.list[usize::from(place)] == vertex {
+                return None;
+            }
+            entry = (entry + 1) & last;
+        }
+        Some(entry)
+    }
+}
+
+/// A fast hash: the two halves of the counters, with the left state in one of them, are mixed by a wide multiplication.
+fn hash(vertex: Vertex) -> usize {
+    let left = (u64::from(vertex.left) + 1).wrapping_mul(0x9E37_79B9_7F4A_7C15);
+    let low = vertex.counters as u64 ^ left;
+    let high = (vertex.counters >> 64) as u64 ^ 0x243F_6A88_85A3_08D3;
+    let mixed = u128::from(low) * u128::from(high);
+    (mixed as u64 ^ (mixed >> 64) as u64) as usize
 }
 
 /// Writes a slot: byte 0 left state, 1-32 counters, 33 letter, 34-35 parent, 36-39 zero; 33-35 are FF without an origin.
@@ -267,36 +289,4 @@ fn read_back(work: &[u8], last: Origin, word: &mut [u8]) -> Result<usize, Refusa
         *place = letter;
     }
     Ok(length)
-}
-
-/// A fast hash for vertices: each number is mixed in by one wide multiplication.
-#[derive(Default)]
-struct VertexHasher {
-    state: u64,
-}
-
-impl Hasher for VertexHasher {
-    fn write(&mut self, bytes: &[u8]) {
-        for &byte in bytes {
-            self.write_u8(byte);
-        }
-    }
-
-    fn write_u8(&mut self, number: u8) {
-        self.write_u64(number.into());
-    }
-
-    fn write_u64(&mut self, number: u64) {
-        let mixed = u128::from(self.state ^ number ^ 0x243F_6A88_85A3_08D3) * 0x9E37_79B9_7F4A_7C15;
-        self.state = mixed as u64 ^ (mixed >> 64) as u64;
-    }
-
-    fn write_u128(&mut self, number: u128) {
-        self.write_u64(number as u64);
-        self.write_u64((number >> 64) as u64);
-    }
-
-    fn finish(&self) -> u64 {
-        self.state
-    }
 }

@@ -1,0 +1,25 @@
+//! The two checkers behind the same functions on bytes and numbers.
+
+use differential::entries::Calls;
+use edition::archive;
+
+/// First file, second file, bound, work, word.
+type ContainCall = fn(&[u8], &[u8], u64, &mut [u8], &mut [u8]) -> u64;
+
+pub struct Checker {
+    pub name: &'static str,
+    pub contain: ContainCall,
+    pub entry: Calls,
+}
+
+pub const KERNEL: Checker = Checker {
+    name: "kernel",
+    contain: archive::contain,
+    entry: Calls::KERNEL,
+};
+
+pub const SECOND: Checker = Checker {
+    name: "second",
+    contain: second::contain,
+    entry: Calls::SECOND,
+};

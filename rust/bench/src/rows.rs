@@ -1,0 +1,115 @@
+//! The rows of the comparison.
+
+use crate::calls::{make_all, Buffers, Call};
+use crate::checkers::{KERNEL, SECOND};
+use crate::inputs;
+
+/// Some calls that are timed together.
+pub struct Row {
+    /// The name on the command line and in JSON.
+    pub name: String,
+    pub what: String,
+    pub calls: Vec<Call>,
+    /// The kind that each number of the row has.
+    kind: u64,
+}
+
+/// Slots of the rows that give the time for each listed vertex; the first has none, so it has reading and checks alone.
+pub const SLOTS: [usize; 4] = [0, 64, 512, 4096];
+
+/// The name of the row with so many slots.
+pub fn slots_name(slots: usize) -> String {
+    format!("slots-{slots}")
+}
+
+pub fn all() -> Vec<Row> {
+    let slots = SLOTS.map(with_slots).into();
+    [by_size(), full(), slots, verdicts(), histories(), longest()]
+        .into_iter()
+        .flatten()
+        .collect()
+}
+
+fn row(name: &str, what: &str, kind: u64, calls: Vec<Call>) -> Row {
+    Row {
+        name: name.to_string(),
+        what: what.to_string(),
+        calls,
+        kind,
+    }
+}
+
+fn by_size() -> Vec<Row> {
+    let small = "contain, 2 to 12 states";
+    let dense = "contain, 32 states dense";
+    vec![
+        row("small-contained", small, 0, inputs::small_pairs(0)),
+        row("small-differs", small, 1, inputs::small_pairs(1)),
+        row("dense-contained", dense, 0, inputs::dense_contained()),
+        row("dense-differs", dense, 1, inputs::dense_differs()),
+    ]
+}
+
+fn full() -> Vec<Row> {
+    let what = "contain, 4,096 slots filled";
+    let larger = "contain, 4,096 slots filled, 32 states";
+    vec![
+        row("full-contained", what, 0, inputs::full_contained()),
+        row("full-differs", what, 1, inputs::full_differs()),
+        row("full-refused", larger, 110, inputs::full_refused()),
+    ]
+}
+
+fn with_slots(slots: usize) -> Row {
+    let what = format!("contain, refused 10 with {slots} slots");
+    row(&slots_name(slots), &what, 110, inputs::with_slots(slots))
+}
+
+fn verdicts() -> Vec<Row> {
+    let small = "verdict, 4,096 + 4,096 letters, 8 states";
+    let dense = "verdict, 4,096 + 4,096 letters, 32 states dense";
+    vec![
+        row("verdict-small", small, 0, inputs::small_verdict()),
+        row("verdict-dense", dense, 1, inputs::dense_verdict()),
+    ]
+}
+
+fn histories() -> Vec<Row> {
+    let small = "open and 8 offers taken, 12 to 4 states";
+    let large = "open and 8 offers taken, 32 to 24 states";
+    vec![
+        row("open-small", "open, 2 to 12 states", 0, inputs::small_opens()),
+        row("history-small", small, 0, inputs::small_history()),
+        row("history-large", large, 0, inputs::large_history()),
+    ]
+}
+
+fn longest() -> Vec<Row> {
+    let whole = "open, the longest file, 82,023 bytes";
+    let cut = "open, the longest file without its end, refused 1";
+    vec![
+        row("longest-opened", whole, 0, inputs::longest_opened()),
+        row("longest-refused", cut, 101, inputs::longest_refused()),
+    ]
+}
+
+impl Row {
+    /// Makes the row's calls with both checkers: the fault, if an answer is not of the row's kind or the two differ in an answer or a
+    /// written byte.
+    pub fn check(&self) -> Result<(), String> {
+        let (mut kernel, mut second) = (Buffers::filled(), Buffers::filled());
+        make_all(&self.calls, &KERNEL, &mut kernel);
+        make_all(&self.calls, &SECOND, &mut second);
+        let name = &self.name;
+        if kernel != second {
+            let (kernel, second) = (&kernel.numbers, &second.numbers);
+            return Err(format!(
+                "{name}: the checkers differ; numbers of the kernel {kernel:?}, of the second {second:?}"
+            ));
+        }
+        match kernel.numbers.iter().find(|&number| number & 0xFF != self.kind) {
+            Some(number) => Err(format!("{name}: kind {} wanted, number {number}", self.kind)),
+            None => Ok(()),
+        }
+    }
+}
