@@ -184,7 +184,7 @@ impl Plain {
             for _ in 0..plain.letters {
                 plain
                     .rows
-                    .push((random.next() as u32) & ((1_u64 << plain.states) - 1) as u32);
+                    .push((random.bits() as u32) & ((1_u64 << plain.states) - 1) as u32);
             }
             plain.accepting |= u32::from(random.chance(1, 2)) << new;
             return plain;

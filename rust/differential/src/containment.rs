@@ -1,10 +1,10 @@
 //! Contain: the kernel against the second checker.
 
+use edition::archive;
 use second::walk::{MAX_SLOTS, SLOT_BYTES};
 
 use crate::automata::{damaged, draw_letters, draw_states, everything, ring, window, worked, Plain};
 use crate::buffer::Buffer;
-use crate::kernel;
 use crate::random::Random;
 use crate::tally::Tally;
 
@@ -40,14 +40,22 @@ fn kind(number: u64) -> u64 {
     number & 0xFF
 }
 
-/// Calls both checkers with equal arguments and compares the number and every byte of both buffers and their guards.
-fn compare(random: &mut Random, tally: &mut Tally, name: &str, files: [&[u8]; 2], bound: u64, lengths: [usize; 2]) {
+/// Calls both checkers with equal arguments and compares the number and every byte of both buffers and their guards. The number is the
+/// second checker's.
+pub fn compare(
+    random: &mut Random,
+    tally: &mut Tally,
+    name: &str,
+    files: [&[u8]; 2],
+    bound: u64,
+    lengths: [usize; 2],
+) -> u64 {
     let [first, second] = files.map(|file| Buffer::holding(random, file));
     let mut kernel_work = Buffer::filled(random, lengths[0]);
     let mut kernel_word = Buffer::filled(random, lengths[1]);
     let (mut second_work, mut second_word) = (kernel_work.clone(), kernel_word.clone());
     let (kept_first, kept_second) = (first.clone(), second.clone());
-    let got = kernel::contain(
+    let got = archive::contain(
         first.contents(),
         second.contents(),
         bound,
@@ -85,6 +93,7 @@ fn compare(random: &mut Random, tally: &mut Tally, name: &str, files: [&[u8]; 2]
         let inputs = [("first", files[0]), ("second", files[1])];
         tally.disagree(&what, &inputs);
     }
+    expected
 }
 
 /// Two automata with something in common.
@@ -226,7 +235,7 @@ fn wide_pair(random: &mut Random) -> [Plain; 2] {
     };
     let mut right = window(random.between(6, 13));
     if random.chance(1, 2) {
-        right.accepting &= random.next() as u32;
+        right.accepting &= random.bits() as u32;
     }
     [left, right]
 }

@@ -1,5 +1,6 @@
 //! Entries in their byte form: open, offer and verdict of a checker against the second checker.
 
+use edition::archive;
 use second::entry::LAST_EDITION;
 use second::lasso::MAX_LASSO;
 use second::walk::SLOT_BYTES;
@@ -14,11 +15,27 @@ use crate::tally::Tally;
 /// An offer: entry, file, bound, work, word.
 type OfferCall = fn(&mut [u8], &[u8], u64, &mut [u8], &mut [u8]) -> u64;
 
-/// The calls of the checker that is compared.
+/// The calls of a checker.
 pub struct Calls {
     pub open: fn(&mut [u8], &[u8]) -> u64,
     pub offer: OfferCall,
     pub verdict: fn(&[u8], &[u8], &[u8]) -> u64,
+}
+
+impl Calls {
+    /// The kernel's.
+    pub const KERNEL: Calls = Calls {
+        open: archive::entry_open,
+        offer: archive::entry_offer,
+        verdict: archive::entry_verdict,
+    };
+
+    /// The second checker's.
+    pub const SECOND: Calls = Calls {
+        open: second::entry_open,
+        offer: second::entry_offer,
+        verdict: second::entry_verdict,
+    };
 }
 
 const OPEN_OUTCOMES: [(u64, u64); 9] = [
@@ -69,13 +86,23 @@ pub struct Tallies {
     verdict: Tally,
 }
 
-impl Tallies {
-    pub fn new() -> Tallies {
+impl Default for Tallies {
+    fn default() -> Tallies {
         Tallies {
             open: Tally::new("entry_open"),
             offer: Tally::new("entry_offer"),
             verdict: Tally::new("entry_verdict"),
         }
+    }
+}
+
+impl Tallies {
+    /// Disagreements noted so far.
+    pub fn disagreements(&self) -> usize {
+        [&self.open, &self.offer, &self.verdict]
+            .map(Tally::disagreements)
+            .iter()
+            .sum()
     }
 
     /// Prints the share of offers that were taken; true if it is at least one in five.
@@ -92,15 +119,15 @@ impl Tallies {
     }
 }
 
-/// What an offer brings besides its file.
-struct Terms {
-    bound: u64,
-    work: usize,
-    word: usize,
+/// What an offer brings besides its file: the bound, and the lengths of its buffers.
+pub struct Terms {
+    pub bound: u64,
+    pub work: usize,
+    pub word: usize,
 }
 
 /// One entry at each of the two checkers.
-struct History<'a> {
+pub struct History<'a> {
     calls: &'a Calls,
     tallies: &'a mut Tallies,
     name: String,
@@ -118,7 +145,13 @@ fn note_differences(faults: &mut Vec<String>, pairs: &[(&str, &Buffer, &Buffer)]
 }
 
 impl<'a> History<'a> {
-    fn new(random: &mut Random, calls: &'a Calls, tallies: &'a mut Tallies, name: String, entry: &[u8]) -> History<'a> {
+    pub fn new(
+        random: &mut Random,
+        calls: &'a Calls,
+        tallies: &'a mut Tallies,
+        name: String,
+        entry: &[u8],
+    ) -> History<'a> {
         let compared = Buffer::holding(random, entry);
         let second = compared.clone();
         History {
@@ -130,6 +163,11 @@ impl<'a> History<'a> {
         }
     }
 
+    /// The entry's bytes.
+    pub fn entry(&self) -> &[u8] {
+        self.second.contents()
+    }
+
     /// The automaton that the entry holds.
     fn held(&self) -> Option<Plain> {
         let entry = Entry::from_bytes(self.second.contents()).ok()?;
@@ -138,7 +176,7 @@ impl<'a> History<'a> {
             .map(|edition| Plain::from_automaton(edition.automaton()))
     }
 
-    fn open(&mut self, random: &mut Random, file: &[u8]) -> u64 {
+    pub fn open(&mut self, random: &mut Random, file: &[u8]) -> u64 {
         let before = self.second.contents().to_vec();
         let lent = Buffer::holding(random, file);
         let kept = lent.clone();
@@ -161,7 +199,7 @@ impl<'a> History<'a> {
         expected
     }
 
-    fn offer(&mut self, random: &mut Random, file: &[u8], terms: &Terms) -> u64 {
+    pub fn offer(&mut self, random: &mut Random, file: &[u8], terms: &Terms) -> u64 {
         let before = self.second.contents().to_vec();
         let lent = Buffer::holding(random, file);
         let kept = lent.clone();
@@ -201,7 +239,7 @@ impl<'a> History<'a> {
         expected
     }
 
-    fn verdict(&mut self, stem: &[u8], turn: &[u8]) -> u64 {
+    pub fn verdict(&mut self, stem: &[u8], turn: &[u8]) -> u64 {
         let got = (self.calls.verdict)(self.compared.contents(), stem, turn);
         let expected = second::entry_verdict(self.second.contents(), stem, turn);
         self.tallies.verdict.add(expected, 0);

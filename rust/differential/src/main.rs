@@ -2,18 +2,11 @@
 //! buffer. All cases are drawn from the seeds below, so each run makes the same calls. The exit status is not 0 if the two
 //! disagree, or if some outcome never came up.
 
-mod automata;
-mod buffer;
-mod containment;
-mod entries;
-mod kernel;
-mod random;
-mod tally;
-
 use std::process::ExitCode;
 use std::time::Instant;
 
-use tally::Tally;
+use differential::tally::Tally;
+use differential::{containment, entries};
 
 /// Pairs of drawn files for contain.
 const PAIRS: usize = 800_000;
@@ -74,34 +67,19 @@ fn compare_contain() -> bool {
     tally.conclude(&containment::OUTCOMES)
 }
 
-#[cfg(feature = "entries")]
 fn compare_entries() -> bool {
     println!("entries: the kernel against the second checker");
-    check_entries(&entries::Calls {
-        open: kernel::entry_open,
-        offer: kernel::entry_offer,
-        verdict: kernel::entry_verdict,
-    })
-}
-
-#[cfg(not(feature = "entries"))]
-fn compare_entries() -> bool {
-    println!("entries: not compared, since the archive does not export them (feature `entries`)");
-    true
+    check_entries(&entries::Calls::KERNEL)
 }
 
 /// The second checker against itself: shows only that the calls drawn come to every outcome.
 fn rehearse_entries() -> bool {
     println!("entries: a rehearsal, the second checker against itself");
-    check_entries(&entries::Calls {
-        open: second::entry_open,
-        offer: second::entry_offer,
-        verdict: second::entry_verdict,
-    })
+    check_entries(&entries::Calls::SECOND)
 }
 
 fn check_entries(calls: &entries::Calls) -> bool {
-    let mut tallies = entries::Tallies::new();
+    let mut tallies = entries::Tallies::default();
     timed(&format!("entries: {LISTS} lists, seed {LISTS_SEED:#x}"), || {
         entries::lists(calls, &mut tallies, LISTS_SEED, LISTS)
     });

@@ -8,13 +8,13 @@ impl Random {
     /// The generator of one case.
     pub fn new(seed: u64, case: usize) -> Random {
         let mut start = Random { state: seed };
-        let base = start.next();
+        let base = start.bits();
         Random {
             state: base ^ (case as u64).wrapping_mul(0xD6E8_FEB8_6659_FD93),
         }
     }
 
-    pub fn next(&mut self) -> u64 {
+    pub fn bits(&mut self) -> u64 {
         self.state = self.state.wrapping_add(0x9E37_79B9_7F4A_7C15);
         let mut mixed = self.state;
         mixed = (mixed ^ mixed >> 30).wrapping_mul(0xBF58_476D_1CE4_E5B9);
@@ -24,7 +24,7 @@ impl Random {
 
     /// A number below the limit.
     pub fn below(&mut self, limit: usize) -> usize {
-        ((self.next() >> 16) % limit as u64) as usize
+        ((self.bits() >> 16) % limit as u64) as usize
     }
 
     /// A number of the range, both ends included.
@@ -38,7 +38,7 @@ impl Random {
     }
 
     pub fn byte(&mut self) -> u8 {
-        (self.next() >> 32) as u8
+        (self.bits() >> 32) as u8
     }
 
     pub fn pick<T: Copy>(&mut self, choices: &[T]) -> T {

@@ -43,6 +43,10 @@ impl Tally {
         self.counts.get(&(kind, detail)).copied().unwrap_or(0)
     }
 
+    pub fn disagreements(&self) -> usize {
+        self.disagreements
+    }
+
     /// Notes a disagreement. The first ones are printed with their inputs.
     pub fn disagree(&mut self, what: &str, inputs: &[(&str, &[u8])]) {
         self.disagreements += 1;

@@ -1,0 +1,128 @@
+//! Any bytes as a list of calls on the kernel and on the second checker: contain, and open, offer and verdict on one entry, whose bytes may be
+//! changed between the calls. Every number and every byte of work, word and entry is compared.
+
+mod answers;
+mod source;
+
+use std::panic::catch_unwind;
+use std::process::abort;
+
+use answers::{note, Call};
+use differential::containment::{compare, OUTCOMES};
+use differential::entries::{Calls, History, Tallies};
+use differential::random::Random;
+use differential::tally::Tally;
+use second::entry::LAST_EDITION;
+use second::ENTRY_BYTES;
+use source::Source;
+
+/// Most calls of one input.
+const MOST_CALLS: usize = 24;
+
+/// The calls made so far and their outcomes.
+pub struct Comparison {
+    contain: Tally,
+    entries: Tallies,
+}
+
+impl Default for Comparison {
+    fn default() -> Comparison {
+        Comparison {
+            contain: Tally::new("contain"),
+            entries: Tallies::default(),
+        }
+    }
+}
+
+impl Comparison {
+    /// Makes the calls that the bytes stand for. True if the two checkers agreed on all calls so far.
+    pub fn agree(&mut self, data: &[u8]) -> bool {
+        let source = &mut Source::new(data);
+        let mut entry = vec![0; ENTRY_BYTES];
+        for _ in 0..MOST_CALLS {
+            if source.is_empty() {
+                break;
+            }
+            match source.byte() % 8 {
+                0..=2 => self.contain(source),
+                7 => forge(source, &mut entry),
+                tag => self.entry_call(source, &mut entry, tag),
+            }
+        }
+        self.contain.disagreements() + self.entries.disagreements() == 0
+    }
+
+    /// Prints the outcomes. True if every outcome of every call came up and nothing disagreed.
+    pub fn conclude(&self) -> bool {
+        self.contain.conclude(&OUTCOMES) & self.entries.conclude()
+    }
+
+    fn contain(&mut self, source: &mut Source) {
+        let files = [source.file(), source.file()];
+        let terms = source.terms();
+        let number = compare(
+            &mut Random::new(0, 0),
+            &mut self.contain,
+            "input",
+            [&files[0], &files[1]],
+            terms.bound,
+            [terms.work, terms.word],
+        );
+        note(Call::Contain, number);
+    }
+
+    /// Opens, offers or asks.
+    fn entry_call(&mut self, source: &mut Source, entry: &mut Vec<u8>, tag: u8) {
+        let random = &mut Random::new(0, 0);
+        let name = "input".to_string();
+        let mut history = History::new(random, &Calls::KERNEL, &mut self.entries, name, entry);
+        match tag {
+            3 => note(Call::Open, history.open(random, &source.file())),
+            6 => {
+                let (stem, turn) = (source.word(), source.word());
+                note(Call::Verdict, history.verdict(&stem, &turn));
+            }
+            _ => {
+                let (file, terms) = (source.file(), source.terms());
+                note(Call::Offer, history.offer(random, &file, &terms));
+            }
+        }
+        *entry = history.entry().to_vec();
+    }
+}
+
+/// Changes one byte of the entry, its edition number to one about the last, or its length.
+fn forge(source: &mut Source, entry: &mut Vec<u8>) {
+    let (place, value) = (source.number(), source.byte());
+    match place {
+        0xF000.. if value == 0 => entry.clear(),
+        0xF000.. => entry.resize(ENTRY_BYTES - 128 + usize::from(value), value),
+        0xE000.. if entry.len() == ENTRY_BYTES => {
+            let edition = LAST_EDITION - 4 + u32::from(value % 8);
+            entry[5..9].copy_from_slice(&edition.to_le_bytes());
+        }
+        _ if entry.is_empty() => {}
+        _ => {
+            let length = entry.len();
+            entry[place % length] = value;
+        }
+    }
+}
+
+/// What the fuzzer calls with each input: aborts if the checkers disagree.
+///
+/// # Safety
+/// The pointer goes with the length.
+#[no_mangle]
+pub unsafe extern "C" fn LLVMFuzzerTestOneInput(data: *const u8, length: usize) -> i32 {
+    let data = if length == 0 {
+        &[]
+    } else {
+        // SAFETY: the caller's promise.
+        unsafe { std::slice::from_raw_parts(data, length) }
+    };
+    match catch_unwind(|| Comparison::default().agree(data)) {
+        Ok(true) => 0,
+        _ => abort(),
+    }
+}
