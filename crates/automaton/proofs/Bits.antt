@@ -5,10 +5,10 @@ use mathlib.Core.Bool.{Bool, true, false, _&&_, _||_}
 use mathlib.Core.Logic.{_⊎_, inl, inr, ⊎-elim, _↔_, _≢_}
 use mathlib.Core.List.{List}
 use Prim.Native.Nat.{ℕ, zero, suc, _/_, _%_, _^_, _≤_, _<_}
-use native.Mathlib.Nat.{pow-suc, one-le-pow, pow-le-pow-right, mul-div-mul-right, mul-mod-left, div-one, div-eq-of-lt, zero-div}
+use native.Mathlib.Nat.{pow-suc, one-le-pow, mul-div-mul-right, mul-mod-left, div-one, div-eq-of-lt, zero-div}
 use native.Mathlib.Omega.{arith}
 use borrow.Author.Tests.{eq-eqb, ne-eqb, eqb-true, eqb-false}
-use lib.Bits.{bitOr, or-shr, or-mod, or-zero-l, or-lt}
+use lib.Bits.{bitOr, or-shr, or-mod, or-zero-l}
 use lib.Dec.{T, eqb, ltb, lt→ltb, eqb→eq, eqb-refl, eqb·zero-suc, eqb·suc-zero, eqb·suc-suc}
 use lib.ListN.{length, getD, set, replicate, length-set, length-replicate}
 use lib.Seq.{getD-set-same, getD-set-other}
@@ -68,11 +68,6 @@ bit-with-same w i = bit-with w i i ∙ ap (λ (c : Bool). bit w i || c) (eq-eqb 
 
 pub bit-with-other : (w i j : ℕ) → i ≢ j → bit (withBit w i) j ≡ bit w j
 bit-with-other w i j h = bit-with w i j ∙ ap (λ (c : Bool). bit w j || c) (ne-eqb i j h) ∙ or-false (bit w j)
-
-pub with-bit-byte : (w i : ℕ) → w < 256 → i < 8 → withBit w i < 256
-with-bit-byte w i h k =
-    let low : 2 ^ i ≤ 2 ^ 7 = pow-le-pow-right (omega arith) {i = i} {j = 7} (omega arith) in
-    or-lt 8 w (2 ^ i) h (omega arith)
 
 pub bit-zero : (j : ℕ) → bit 0 j ≡ false
 bit-zero j = ap (λ (x : ℕ). eqb (x % 2) 1) (zero-div (2 ^ j))

@@ -2,9 +2,9 @@
 -- Then loops over ranges that test, sum and look for members that the header lacks: the rest from i on gives the answer of the whole.
 -- Assumes nothing.
 use mathlib.Core.Path.{_≡_, refl, sym, ap, subst, _∙_}
-use mathlib.Core.Bool.{Bool, true, false, cond, _&&_, _||_, not}
+use mathlib.Core.Bool.{Bool, true, false, _&&_, _||_, not}
 use mathlib.Core.List.{List, [], _∷_}
-use mathlib.Core.Logic.{_⊎_, inl, inr, ⊎-elim}
+use mathlib.Core.Logic.{_⊎_, ⊎-elim}
 use Prim.Native.Nat.{ℕ, zero, suc, _+_, _-_, _*_, _/_, _%_, _^_, _≤_, _<_}
 use native.Mathlib.Nat.{mul-assoc, eq-or-lt-of-le, lt-of-not-le}
 use native.Mathlib.Omega.{arith}
@@ -12,14 +12,13 @@ use lib.Bits.{shifted-even}
 use lib.Dec.{eqb, ltb}
 use lib.ListN.{getD}
 use lib.Pow.{pow-add, shl-shr, shr-shr}
-use borrow.Author.Tests.{lt-ltb, le-ltb, ltb-true, ltb-false}
+use borrow.Author.Tests.{lt-ltb, le-ltb}
 use Rattle.automaton.specs.declared.Automaton.{Automaton}
 use Rattle.automaton.specs.Ranges.{some, those, total}
 use Rattle.automaton.specs.Sets.{bit, leastMember}
 use Rattle.automaton.specs.Automata.{transition, targets, one, transitionCount}
 use Rattle.automaton.specs.Members.{transitionIn, nextFrom, countFrom}
-use Rattle.automaton.proofs.Tests.{clash, is-true, T-true}
-use Rattle.automaton.proofs.Ranges.{some-at}
+use Rattle.automaton.proofs.Tests.{clash}
 
 -- what does not change from k to k + 1, for the k from i to below j, is the same at i and j
 same-along : {X : Type 0} (g : ℕ → X) (i j : ℕ) → i ≤ j → ((k : ℕ) → i ≤ k → k < j → g k ≡ g (suc k)) → g i ≡ g j
@@ -312,50 +311,6 @@ stray-below false k n h = refl
 pub stray-above : (b : Bool) (k n : ℕ) → n ≤ k → (b && not (ltb k n)) ≡ b
 stray-above true k n h = ap not (le-ltb k n h)
 stray-above false k n h = refl
-
-le-or-lt : (i k : ℕ) → (i ≤ k) ⊎ (k < i)
-le-or-lt i k = go (ltb k i) refl
-  where
-    go : (b : Bool) → ltb k i ≡ b → (i ≤ k) ⊎ (k < i)
-    go true e = inr (ltb-true k i e)
-    go false e = inl (ltb-false k i e)
-
-none-of : (g : ℕ → Bool) (m : ℕ) → ((k : ℕ) → k < m → g k ≡ false) → some g m 0 ≡ false
-none-of g m none =
-    let z : m ≡ m - 0 = omega arith in
-    ap (λ (n : ℕ). some g n 0) z ∙ some-skip g m 0 m (omega arith) (λ k _ u. none k u) ∙ some-end g m m (omega arith)
-
--- there is a member of the range that is not among the first i exactly when the next member from i on is in the range
-pub some-next : (f g : ℕ → Bool) (m i : ℕ) → i ≤ m → ((k : ℕ) → k < i → g k ≡ false) → ((k : ℕ) → i ≤ k → g k ≡ f k)
-    → ltb (nextFrom f (m - i) i) m ≡ some g m 0
-some-next f g m i h below above = go (ltb (nextFrom f (m - i) i) m) refl
-  where
-    go : (b : Bool) → ltb (nextFrom f (m - i) i) m ≡ b → ltb (nextFrom f (m - i) i) m ≡ some g m 0
-    go true e =
-        let l = ltb-true (nextFrom f (m - i) i) m e in
-        let x = above (nextFrom f (m - i) i) (next-from f (m - i) i) ∙ next-holds f (m - i) i (omega arith) in
-        e ∙ sym (T-true (some g m 0) (some-at g m (nextFrom f (m - i) i) l (is-true (g (nextFrom f (m - i) i)) x)))
-    go false e =
-        let l = ltb-false (nextFrom f (m - i) i) m e in
-        let none : (k : ℕ) → i ≤ k → k < m → g k ≡ false =
-        λ k p u. above k p ∙ next-before f (m - i) i k p (omega arith) in
-        e ∙ sym (none-of g m (λ k u. ⊎-elim (λ q. none k (omega arith) u) (λ q. below k q) (le-or-lt i k)))
-
--- the members of the range that are not among the first n, where the range has those at all
-pub first-stray-le : (n m : ℕ) → n ≤ m → (known : Bool) → cond known n 0 ≤ m
-first-stray-le n m h true = h
-first-stray-le n m h false = omega arith
-
-module _ (f : ℕ → Bool) (n m : ℕ) (h : n ≤ m) where
-  pub some-stray : (known : Bool) (j : ℕ) → j ≡ cond known n 0
-      → ltb (nextFrom f (m - j) j) m ≡ some (λ k. f k && not (known && ltb k n)) m 0
-  some-stray true j e =
-      some-next f _ m j (omega arith) (λ k u. stray-below (f k) k n (omega arith)) (λ k u. stray-above (f k) k n (omega arith))
-  some-stray false j e = some-next f _ m j (omega arith) (λ k u. absurd (omega arith)) (λ k u. go (f k))
-    where
-      go : (b : Bool) → (b && true) ≡ b
-      go true = refl
-      go false = refl
 
 -- Between the header's states, on its letters, a transition is its bit.
 

@@ -77,9 +77,6 @@ file-whole s A e = subst SoundRead e (read-sound s)
 pub file-in-range : (s : List ℕ) (A : Automaton) → readFile s ≡ holds A → InRange A
 file-in-range s A e = file-whole s A e .in-range
 
-pub file-lengths : (s : List ℕ) (A : Automaton) → readFile s ≡ holds A → (length (A .accepting) ≡ 4) × (length (A .transitions) ≡ 2048)
-file-lengths s A e = let w = file-whole s A e in (w .accepting-length, w .transitions-length)
-
 pub file-refusals : (s : List ℕ) (n : ℕ) → readFile s ≡ refused n → (1 ≤ n) × (n ≤ 5)
 file-refusals s n e = subst SoundRead e (read-sound s)
 
@@ -87,9 +84,6 @@ file-refusals s n e = subst SoundRead e (read-sound s)
 
 pub read-same : {x : Read} {A B : Automaton} → x ≡ holds A → x ≡ holds B → A ≡ B
 read-same e d = cc
-
-pub refused-same : {x : Read} {n m : ℕ} → x ≡ refused n → x ≡ refused m → n ≡ m
-refused-same e d = cc
 
 pub read-not-both : {x : Read} {A : Automaton} {n : ℕ} → x ≡ holds A → x ≡ refused n → ⊥
 read-not-both e d = let z : _≡_ {A = ℕ} 0 1 = cc in omega arith

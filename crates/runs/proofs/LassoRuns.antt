@@ -4,7 +4,7 @@ use mathlib.Core.Path.{_≡_, refl, subst}
 use mathlib.Core.Logic.{_⊎_, inl, inr}
 use mathlib.Core.List.{List, _∷_, _++_, append-assoc, List·Memᴰ as Mem, List·Memᴰ·head as first, List·Memᴰ·tail as later}
 use mathlib.Core.List.{List·Memᴰ·cases-cons as cases-cons, List·Memᴰ·append-cases as append-cases}
-use mathlib.Core.List.{Memᴰ·append-left as append-left, Memᴰ·append-right as append-right}
+use mathlib.Core.List.{Memᴰ·append-left as append-left}
 use Prim.Native.Nat.{ℕ, zero, suc, _+_, _*_, _≤_}
 use native.Mathlib.Omega.{arith}
 use native.Mathlib.Nat.{suc-add, zero-mul, zero-add}
@@ -58,10 +58,6 @@ module _ (A : Automaton) (p : ℕ) (w : List ℕ) (q : ℕ) (x : List ℕ) (r : 
   pub visit-append : Visit A p w q → Via A q x r → Visit A p (w ++ x) r
   unfolding Meets
   visit-append s t = (s .0 ++ t .0, run-append (s .1) (t .1), (s .2 .0, append-left (t .0) (s .2 .1), s .2 .2))
-
-  pub append-visit : Via A p w q → Visit A q x r → Visit A p (w ++ x) r
-  unfolding Meets
-  append-visit s t = (s .0 ++ t .0, run-append (s .1) (t .1), (t .2 .0, append-right (s .0) (t .2 .1), t .2 .2))
 
 pub via-split : {A : Automaton} {p r : ℕ} (w x : List ℕ) → Via A p (w ++ x) r → (q : ℕ) × Via A p w q × Via A q x r
 via-split w x t = let s = run-split w x (t .1) in (s .mid, (s .ts₁, s .run₁), (s .ts₂, s .run₂))

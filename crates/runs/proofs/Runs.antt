@@ -2,10 +2,8 @@
 use mathlib.Core.Path.{_≡_, refl, ap}
 use mathlib.Core.List.{List, [], _∷_, _++_}
 use Prim.Native.Nat.{ℕ, suc, _<_}
-use lib.Dec.{T}
 use lib.ListN.{length}
 use Rattle.automaton.specs.declared.Automaton.{Automaton}
-use Rattle.automaton.specs.Automata.{transition}
 use Rattle.runs.specs.Runs.{Run, here, step}
 use Rattle.automaton.proofs.Transitions.{transition-into}
 
@@ -16,10 +14,6 @@ run-length (step x k) = ap suc (run-length k)
 pub run-append : {A : Automaton} {p q r : ℕ} {w x ts us : List ℕ} → Run A p w q ts → Run A q x r us → Run A p (w ++ x) r (ts ++ us)
 run-append here s = s
 run-append (step h r) s = step h (run-append r s)
-
--- one letter more
-pub run-more : {A : Automaton} {p q : ℕ} {w ts : List ℕ} (a t : ℕ) → Run A p w q ts → T (transition A q a t) → Run A p (w ++ a ∷ []) t (ts ++ t ∷ [])
-run-more a t k x = run-append k (step x here)
 
 pub record Parts (A : Automaton) (p : ℕ) (w x : List ℕ) (r : ℕ) (ts : List ℕ) : Type 0 where
   pub mid : ℕ

@@ -3,6 +3,7 @@
 use second::contain;
 
 use crate::definitions;
+use crate::faulty::{dead, faulty};
 use crate::random::Random;
 use crate::worked::{f, g, h, idle, j, ring, Plain};
 
@@ -69,27 +70,6 @@ fn k11_32_states_pass_and_33_do_not() {
     assert_eq!(ask(&ring(32), &ring(32), 0).0, (0, 32, 0));
     assert_eq!(ask(&ring(33), &ring(32), 0).0, (103, 1, 0));
     assert_eq!(ask(&ring(32), &ring(33), 0).0, (103, 2, 0));
-}
-
-/// A file of one state and one letter that goes on with the given bytes.
-fn after_header(more: &[u8]) -> Vec<u8> {
-    [&[0x41, 0x48, 1, 1, 0], more].concat()
-}
-
-/// Files with refusals 1 to 5.
-fn faulty() -> [Vec<u8>; 5] {
-    [
-        vec![],
-        vec![0x41, 0x46, 0x00],
-        vec![0x41, 0x48, 0x00, 0x01, 0x00],
-        after_header(&[0x41, 0x46, 0x01]),
-        after_header(&[0x41, 0x46, 0x00, 0x41, 0x46, 0x00]),
-    ]
-}
-
-/// A file with refusal 6 and one letter.
-fn dead() -> Vec<u8> {
-    after_header(&[0x41, 0x45])
 }
 
 #[test]

@@ -4,6 +4,7 @@ use second::entry::{ENTRY_BYTES, LAST_EDITION};
 use second::{entry_offer, entry_open, entry_verdict, Entry};
 
 use crate::definitions;
+use crate::faulty::{dead, faulty};
 use crate::random::Random;
 use crate::worked::{everything, f, g, h, j, Plain};
 
@@ -153,27 +154,6 @@ fn the_back_walk_writes_over_the_forward_walks_slots() {
         assert_eq!(number & 0xFF, expected);
         assert_eq!(work, back.work);
     }
-}
-
-/// A file of one state and one letter that goes on with the given bytes.
-fn after_header(more: &[u8]) -> Vec<u8> {
-    [&[0x41, 0x48, 1, 1, 0], more].concat()
-}
-
-/// Files with refusals 1 to 5.
-fn faulty() -> [Vec<u8>; 5] {
-    [
-        vec![],
-        vec![0x41, 0x46, 0x00],
-        vec![0x41, 0x48, 0x00, 0x01, 0x00],
-        after_header(&[0x41, 0x46, 0x01]),
-        after_header(&[0x41, 0x46, 0x00, 0x41, 0x46, 0x00]),
-    ]
-}
-
-/// A file with refusal 6 and one letter.
-fn dead() -> Vec<u8> {
-    after_header(&[0x41, 0x45])
 }
 
 #[test]

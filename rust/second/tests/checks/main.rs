@@ -5,6 +5,7 @@ mod contain;
 mod dead;
 mod definitions;
 mod entry;
+mod faulty;
 mod file;
 mod lasso;
 mod listing;
