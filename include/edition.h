@@ -2,25 +2,35 @@
 
    Link with target/staticlib/libkernel.a, which `rt staticlib kernel` writes. It needs memcpy, memmove, memset and memcmp at most.
 
-   Arguments. A buffer is a pointer and its length in bytes; NULL goes with length 0. Any contents and any lengths are answered. A
-   buffer that a function writes (entry of open and offer, work, word) overlaps no other argument; those that it only reads may
-   overlap each other.
+   Arguments. A buffer is a pointer and its length in bytes; NULL goes with length 0. Any contents are answered, and any length below
+   2^63: the proofs are about these, and no object in memory is longer. A buffer that a function writes (entry of open and offer,
+   work, word) overlaps no other argument; those that it only reads may overlap each other.
+
+   What is left alone. A refusal leaves every byte of `entry` and of `word` as it was, and of `work` too, except that 10 and 11 leave
+   the slots of the walks made. `word` is written only where a word is given back, and the bytes past the word keep their contents;
+   so do the bytes of `work` past the slots.
 
    Threads. There are no global variables and no allocation: calls on buffers of their own may run at the same time.
 
-   Stack. Within 64 KiB, and 128 bytes more for each letter of the word that contain or entry_offer gives back, of which there are at
-   most EDITION_MAX_WORD: 576 KiB in all. tests/stack/run measures it, on x86-64 about half of that. */
+   Stack. Within 64 KiB, and within 128 bytes more for each letter of the word that contain or entry_offer gives back, which may be
+   EDITION_MAX_WORD letters: 576 KiB are enough for every call. A thread with less lends a shorter `word`: a word that does not fit
+   is refused with 11 before any of it is read back. On x86-64 tests/stack/run measures 44,304 bytes at most without a word and 64 for
+   each letter: 306,320 for an offer that is turned down with a word of 4,096 letters. */
 #ifndef EDITION_H
 #define EDITION_H
 
 #include <stddef.h>
 #include <stdint.h>
 
+/* The version: for people, and as a number to compare, 10000 * major + 100 * minor + patch. */
+#define EDITION_VERSION "0.3.0"
+#define EDITION_VERSION_NUMBER 300
+
 #ifdef __cplusplus
 extern "C" {
 #endif
 
-/* Limits. A longer work or word buffer is allowed and its further bytes are left alone. */
+/* Limits. A longer work or word buffer is allowed. */
 #define EDITION_MAX_STATES 32  /* of an automaton */
 #define EDITION_MAX_LETTERS 16 /* of an automaton */
 #define EDITION_MAX_BOUND 14   /* a larger one is refused with 8 */
@@ -28,7 +38,7 @@ extern "C" {
 #define EDITION_SLOT_BYTES 40  /* one listed vertex in the work buffer */
 #define EDITION_MAX_SLOTS 4096 /* more slots are not used */
 #define EDITION_MAX_WORK (EDITION_MAX_SLOTS * EDITION_SLOT_BYTES) /* bytes of the largest useful work buffer */
-#define EDITION_MAX_WORD 4096  /* a word buffer of this length is never too short */
+#define EDITION_MAX_WORD 4096  /* letters of a word: a word buffer of this length is never too short */
 #define EDITION_ENTRY_BYTES 2061 /* an entry; one whose bytes are all zero is fresh, that is empty */
 
 /* Kinds of answers. A kind of 100 or more is a refusal, see edition_refusal. */
@@ -39,7 +49,7 @@ enum edition_verdict_kind { EDITION_NO = 0, EDITION_YES = 1 };
 
 /* Refusals. */
 enum edition_refusal_number {
-    EDITION_REFUSED_FILE_ENDS = 1,    /* the file ends inside a record or without an end record */
+    EDITION_REFUSED_FILE_ENDS = 1,    /* the file stops before its end record */
     EDITION_REFUSED_MARK = 2,         /* a mark is unknown or misplaced, or bytes follow the end record */
     EDITION_REFUSED_HEADER = 3,       /* a header value is outside its range */
     EDITION_REFUSED_OUTSIDE = 4,      /* a state or letter is not in the header */
@@ -58,11 +68,12 @@ enum edition_refusal_number {
 
 /* Is the first file's automaton contained in the second's at the bound? The number has a kind, a count and a word length:
      EDITION_CONTAINED   count: the vertices of the walk
-     EDITION_DIFFERS     count: the place of the final vertex; the word that shows the difference stands in front in `word`
+     EDITION_DIFFERS     count: the place of the final vertex; word length: the letters of the word that shows the difference, which
+                         stands in front in `word`
      refusals 1 to 6     count: which file, 1 or 2
      refusal 10          count: the slots that there were
      refusal 11          word length: the length needed
-   `work` holds the walk's slots afterwards, also with 10 and 11; the other refusals leave it as it was. */
+   `work` holds the walk's slots afterwards, also with 10 and 11. */
 uint64_t contain(const uint8_t *first, size_t first_len, const uint8_t *second, size_t second_len, uint64_t bound,
                  uint8_t *work, size_t work_len, uint8_t *word, size_t word_len);
 
@@ -76,7 +87,8 @@ uint64_t entry_open(uint8_t *entry, size_t entry_len, const uint8_t *file, size_
      EDITION_BACK      a word of the offer that the held automaton does not follow, in front in `word`; both counts
      refusal 10        the walk, and the slots that there were as that walk's count
      refusal 11        the walk, and the length needed as word length
-   Only EDITION_TAKEN changes the entry. Other refusals: 9, 13, 1 to 5, 8, 7, 6, 14, tested in this order. */
+   Only EDITION_TAKEN changes the entry. `work` holds the slots of the last walk made afterwards, also with 10 and 11, and past them
+   those of a longer walk before it. Other refusals: 9, 13, 1 to 5, 8, 7, 6, 14, tested in this order. */
 uint64_t entry_offer(uint8_t *entry, size_t entry_len, const uint8_t *file, size_t file_len, uint64_t bound,
                      uint8_t *work, size_t work_len, uint8_t *word, size_t word_len);
 

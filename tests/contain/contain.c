@@ -1,5 +1,5 @@
-/* Calls contain, linked from the kernel's archive, on the scope document's examples and on odd buffers. */
-#include "../check.h"
+/* Calls contain, linked from the kernel's archive, on the scope document's examples, on the longest walks and words, and on odd buffers. */
+#include "rings.h"
 
 static struct file file_f(void) { return example("examples/f.ba"); }
 static struct file file_g(void) { return example("examples/g.ba"); }
@@ -103,6 +103,27 @@ static void slots(void) {
           r == packed(EDITION_DIFFERS, 2, 1) && memcmp(work, slot0, 40) == 0 && memcmp(work + 40, slot1, 40) == 0);
 }
 
+/* The walks that need all 4,096 slots, with exactly the bytes that they need and with one byte less. */
+static void longest(void) {
+    struct file contained = left_rings(AGAIN), contains = right_rings(AGAIN, 0);
+    const size_t bytes = EDITION_MAX_WORK;
+    call("4,096 vertices, contained", &contained, &contains, 0, bytes, 0, packed(EDITION_CONTAINED, 4096, 0), 4096, "", 0);
+    call("4,096 vertices, 4,095 slots", &contained, &contains, 0, bytes - 1, 0, refused(EDITION_REFUSED_SLOTS, 4095, 0), 4095, "", 0);
+    call("4,096 vertices, more bytes than are used", &contained, &contains, 0, MOST, 0, packed(EDITION_CONTAINED, 4096, 0), 4096, "", 0);
+    for (int kind = APART; kind <= AGAIN; kind++) {
+        struct file f = left_rings(kind), g = right_rings(kind, 1);
+        size_t n = kind == APART ? 4095 : 4096;
+        char letters[4096], name[80];
+        memset(letters, 1, n), letters[n - 1] = 0;
+        snprintf(name, sizeof name, "a word of %zu letters, at place 4,096", n);
+        call(name, &f, &g, 0, bytes, n, packed(EDITION_DIFFERS, 4096, n), 4096, letters, n);
+        snprintf(name, sizeof name, "a word of %zu letters, one byte of work short", n);
+        call(name, &f, &g, 0, bytes - 1, n, refused(EDITION_REFUSED_SLOTS, 4095, 0), 4095, "", 0);
+        snprintf(name, sizeof name, "a word of %zu letters, one byte of word short", n);
+        call(name, &f, &g, 0, bytes, n - 1, refused(EDITION_REFUSED_WORD, 0, n), 4096, "", 0);
+    }
+}
+
 static void refusals(void) {
     struct file h = file_h(), g = file_g(), f = file_f();
     const struct file none = {{0}, 0};
@@ -134,6 +155,7 @@ int main(void) {
     worked_cases();
     words();
     slots();
+    longest();
     refusals();
     return conclude("contain from C");
 }

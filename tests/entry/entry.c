@@ -1,11 +1,5 @@
 /* Calls entry_open, entry_offer and entry_verdict, linked from the kernel's archive, on entries held as bytes. */
-#include "../check.h"
-
-static struct file file_f(void) { return example("examples/f.ba"); }
-static struct file file_g(void) { return example("examples/g.ba"); }
-
-/* One accepting state that loops on letter 0 of two. */
-static struct file zeros(void) { return example("examples/absence.ba"); }
+#include "files.h"
 
 /* The accepting initial state does not come back on the loop 0. */
 static struct file once(void) {
@@ -16,7 +10,7 @@ static struct file once(void) {
     return f;
 }
 
-enum { ENTRY = EDITION_ENTRY_BYTES, SLOT = EDITION_SLOT_BYTES, MOST = 65520, WORDS = 64 };
+enum { MOST = 65520, WORDS = 64 };
 static uint8_t entry[ENTRY], before[ENTRY], work[MOST + 64], word[WORDS + 64];
 
 static uint64_t number(uint64_t kind, uint64_t forward, uint64_t back, uint64_t len, uint64_t walk) {
@@ -113,19 +107,14 @@ static void offers(void) {
 static void bad_files(void) {
     struct file f = file_f(), h = chain(1, 1, 1);
     opened(&f);
-    static const uint8_t r[6][11] = {
-        {0}, {0x41, 0x46, 0}, {0x41, 0x48, 0, 1, 0}, {0x41, 0x48, 1, 1, 0, 0x41, 0x46, 1},
-        {0x41, 0x48, 1, 1, 0, 0x41, 0x46, 0, 0x41, 0x46, 0}, {0x41, 0x48, 1, 2, 0, 0x41, 0x45}};
-    static const size_t len[6] = {0, 3, 5, 8, 11, 7};
-    for (unsigned i = 0; i < 6; i++) {
-        struct file b = {{0}, len[i]};
-        memcpy(b.bytes, r[i], len[i]);
+    for (unsigned i = 1; i <= 6; i++) {
+        struct file b = faulty(i);
         char name[64];
-        snprintf(name, sizeof name, "row %u from offer", i + 1);
-        offer(name, &b, 1, 64, 8, refused(i + EDITION_REFUSED_FILE_ENDS, 0, 0, 0, 0), 0, "", 0);
+        snprintf(name, sizeof name, "row %u from offer", i);
+        offer(name, &b, 1, 64, 8, refused(i, 0, 0, 0, 0), 0, "", 0);
         fresh();
-        snprintf(name, sizeof name, "row %u from open", i + 1);
-        check(name, entry_open(entry, ENTRY, b.bytes, b.len) == 100 + EDITION_REFUSED_FILE_ENDS + i && entry[0] == 0);
+        snprintf(name, sizeof name, "row %u from open", i);
+        check(name, entry_open(entry, ENTRY, b.bytes, b.len) == 100 + i && entry[0] == 0);
         opened(&f);
     }
     offer("row 7 from offer: letter counts differ", &h, 1, 64, 8, refused(EDITION_REFUSED_LETTERS, 0, 0, 0, 0), 0, "", 0);

@@ -1,56 +1,41 @@
 /* Measures the stack that the functions use: for calls that read no word back, and for each letter of a word that is read back. */
 #define _POSIX_C_SOURCE 200809L
-#include "../check.h"
+#include "../contain/rings.h"
 #include <pthread.h>
 
-enum { STACK = 4 << 20, LETTERS = 434, MOST = 64 * 1024 };
+enum { STACK = 4 << 20, MOST = 64 * 1024, MOST_LETTER = 128, WORK = EDITION_MAX_WORK, WORD = EDITION_MAX_WORD };
 
-static struct file left, right, small;
-static uint8_t work[EDITION_MAX_WORK], word[EDITION_MAX_WORD];
-static uint8_t entry[EDITION_ENTRY_BYTES], fresh[EDITION_ENTRY_BYTES];
+static uint8_t work[WORK], word[WORD], entry[EDITION_ENTRY_BYTES];
 static const uint8_t zeros[EDITION_MAX_LASSO];
-static uint64_t bound, answer;
 
-/* A ring of n states on letter 0, the first accepting, each staying on letter 1. */
-static struct file ring(uint8_t n) {
-    struct file f = header(n, 2, 0);
-    accepting(&f, 0);
-    for (uint8_t q = 0; q < n; q++) transition(&f, q, 0, (uint8_t)((q + 1) % n)), transition(&f, q, 1, q);
-    end(&f);
-    return f;
-}
+/* A call on two files: the second is offered to an entry that holds the first, where there is an entry. */
+struct call {
+    const char *what;
+    struct file first, second;
+    uint64_t bound;
+    size_t work_len, word_len;
+    uint64_t expected;
+    size_t letters; /* that are read back */
+};
 
-/* A ring of n states on letter 0 of which none accepts, each going to an accepting one on letter 1. */
-static struct file waiting(uint8_t n) {
-    struct file f = header((uint8_t)(n + 1), 2, 0);
-    accepting(&f, n), transition(&f, n, 0, n), transition(&f, n, 1, n);
-    for (uint8_t q = 0; q < n; q++) transition(&f, q, 0, (uint8_t)((q + 1) % n)), transition(&f, q, 1, n);
-    end(&f);
-    return f;
-}
+static struct call made;
+static uint64_t answer;
 
-/* Left in right: at bound 14 the shortest word that shows the difference has 434 letters. Small can be offered to left, with the same word. */
-static void automata(void) {
-    left = ring(31), right = waiting(31), small = waiting(29);
-    if (entry_open(entry, sizeof entry, left.bytes, left.len)) exit(2);
-}
-
-static void *call(void *arg) {
+static void *contained(void *arg) {
     (void)arg;
-    answer = contain(left.bytes, left.len, right.bytes, right.len, bound, work, sizeof work, word, sizeof word);
+    answer = contain(made.first.bytes, made.first.len, made.second.bytes, made.second.len, made.bound, work, made.work_len, word, made.word_len);
     return NULL;
 }
 
-static void *offer(void *arg) {
+static void *offered(void *arg) {
     (void)arg;
-    answer = entry_offer(entry, sizeof entry, small.bytes, small.len, bound, work, sizeof work, word, sizeof word);
+    answer = entry_offer(entry, sizeof entry, made.second.bytes, made.second.len, made.bound, work, made.work_len, word, made.word_len);
     return NULL;
 }
 
-static void *open_entry(void *arg) {
+static void *opened(void *arg) {
     (void)arg;
-    memset(fresh, 0, sizeof fresh);
-    answer = entry_open(fresh, sizeof fresh, left.bytes, left.len);
+    answer = entry_open(entry, sizeof entry, made.first.bytes, made.first.len);
     return NULL;
 }
 
@@ -81,40 +66,96 @@ static long used(void *(*run)(void *)) {
 
 static long base;
 
-/* The stack of a call at a bound, over that of an empty thread. */
-static long at(uint64_t b, void *(*run)(void *)) {
-    bound = b;
-    return used(run) - base;
+/* The stack of a call over that of an empty thread, printed. A wrong answer or a stack above the limit is a failure. */
+static long measured(const char *name, void *(*run)(void *), const struct call *call) {
+    made = *call;
+    memset(entry, 0, sizeof entry);
+    if (run != opened) opened(NULL);
+    long bytes = used(run) - base;
+    int ok = answer == call->expected && bytes <= MOST + MOST_LETTER * (long)call->letters;
+    printf("stack of %s, %s: %ld bytes%s\n", name, call->what, bytes, ok ? "" : ": FAILED");
+    if (answer != call->expected) printf("  answered %llx, not %llx\n", (unsigned long long)answer, (unsigned long long)call->expected);
+    failures += !ok;
+    return bytes;
 }
 
-/* Prints the stack of a call that is refused, and of one with a short word and one with a long one; whether it is within the limits. */
-static int walks(const char *name, void *(*run)(void *), size_t (*letters)(uint64_t)) {
-    long refused = at(15, run), shallow = at(0, run);
-    size_t few = letters(answer);
-    long deep = at(14, run);
-    size_t many = letters(answer);
-    double each = (double)(deep - shallow) / (double)(many - few);
-    printf("stack of %s: %ld bytes for a refused call, %ld with a word of %zu letters, %ld with %zu letters: %.1f a letter\n", name, refused,
-           shallow, few, deep, many, each);
-    return many == LETTERS && shallow <= MOST && each <= 128;
+/* The calls of a table, the first of which gives back the empty word and the last the longest; then the bytes for each letter of that. */
+static void measure(const char *name, void *(*run)(void *), const struct call *calls, size_t n) {
+    long least = 0, bytes = 0;
+    for (size_t i = 0; i < n; i++) {
+        bytes = measured(name, run, &calls[i]);
+        if (i == 0) least = bytes;
+    }
+    double each = (double)(bytes - least) / (double)calls[n - 1].letters;
+    failures += each > MOST_LETTER;
+    printf("stack of %s: %.1f bytes for each of %zu letters%s\n", name, each, calls[n - 1].letters, each > MOST_LETTER ? ": FAILED" : "");
 }
 
-/* Prints the stack of a call without a walk; whether it is within the limit. */
-static int plain(const char *name, void *(*run)(void *), uint64_t expected) {
-    long bytes = at(0, run);
-    printf("stack of %s: %ld bytes\n", name, bytes);
-    return answer == expected && bytes <= MOST;
+static uint64_t packed(uint64_t kind, uint64_t count, uint64_t letters) { return kind + (count << 8) + (letters << 24); }
+
+static uint64_t packed_offer(uint64_t kind, uint64_t forward, uint64_t back, uint64_t letters, uint64_t walk) {
+    return kind + (forward << 8) + (back << 24) + (letters << 40) + (walk << 56);
+}
+
+#define SIZE(calls) (sizeof(calls) / sizeof *(calls))
+
+/* The automata of the longest walks and words; of a held one the states that are not reached make it the larger of the two. */
+static struct file left[2], right[2], held[2], contains;
+
+static void automata(void) {
+    for (int kind = APART; kind <= AGAIN; kind++) {
+        left[kind] = held[kind] = left_rings(kind), right[kind] = right_rings(kind, 1);
+        held[kind].bytes[2] = EDITION_MAX_STATES;
+    }
+    contains = right_rings(AGAIN, 0);
+}
+
+static void contain_calls(void) {
+    struct file h = example("examples/h.ba"), j = example("examples/j.ba");
+    const struct call calls[] = {
+        {"a word of no letters", h, j, 0, WORK, WORD, packed(EDITION_DIFFERS, 0, 0), 0},
+        {"refused after reading", left[APART], right[APART], 15, WORK, WORD, packed(100 + EDITION_REFUSED_BOUND, 0, 0), 0},
+        {"contained, 4,096 vertices", left[AGAIN], contains, 0, WORK, WORD, packed(EDITION_CONTAINED, 4096, 0), 0},
+        {"one byte of work short", left[APART], right[APART], 0, WORK - 1, WORD, packed(100 + EDITION_REFUSED_SLOTS, 4095, 0), 0},
+        {"one byte of word short", left[APART], right[APART], 0, WORK, 4094, packed(100 + EDITION_REFUSED_WORD, 0, 4095), 0},
+        {"a word of 4,095 letters", left[APART], right[APART], 0, WORK, 4095, packed(EDITION_DIFFERS, 4096, 4095), 4095},
+        {"a word of 4,096 letters", left[AGAIN], right[AGAIN], 0, WORK, 4096, packed(EDITION_DIFFERS, 4096, 4096), 4096},
+    };
+    measure("contain", contained, calls, SIZE(calls));
+}
+
+static void offer_calls(void) {
+    struct file f = example("examples/f.ba"), g = example("examples/g.ba"), h3 = chain(1, 1, 1), j = example("examples/j.ba");
+    h3.bytes[2] = 3;
+    const struct call calls[] = {
+        {"a forward word of no letters", h3, j, 0, WORK, WORD, packed_offer(EDITION_FORWARD, 0, 0, 0, 0), 0},
+        {"refused after reading", held[APART], right[APART], 15, WORK, WORD, packed_offer(100 + EDITION_REFUSED_BOUND, 0, 0, 0, 0), 0},
+        {"taken, 5 and 8 vertices", f, g, 1, WORK, WORD, packed_offer(EDITION_TAKEN, 5, 8, 0, 0), 0},
+        {"a back word of 1 letter", f, g, 0, WORK, WORD, packed_offer(EDITION_BACK, 4, 2, 1, 0), 1},
+        {"one byte of work short", held[APART], right[APART], 0, WORK - 1, WORD, packed_offer(100 + EDITION_REFUSED_SLOTS, 4095, 0, 0, 1), 0},
+        {"one byte of word short", held[APART], right[APART], 0, WORK, 4094, packed_offer(100 + EDITION_REFUSED_WORD, 0, 0, 4095, 1), 0},
+        {"a forward word of 4,095 letters", held[APART], right[APART], 0, WORK, 4095, packed_offer(EDITION_FORWARD, 4096, 0, 4095, 0), 4095},
+        {"a forward word of 4,096 letters", held[AGAIN], right[AGAIN], 0, WORK, 4096, packed_offer(EDITION_FORWARD, 4096, 0, 4096, 0), 4096},
+    };
+    measure("entry_offer", offered, calls, SIZE(calls));
+}
+
+static void plain_calls(void) {
+    const struct file largest = chain(EDITION_MAX_STATES, 1, 1);
+    const struct call opens = {"32 states", largest, largest, 0, 0, 0, EDITION_OPENED, 0};
+    const struct call asks = {"32 states, a stem and a loop of 4,096 letters", largest, largest, 0, 0, 0, EDITION_YES, 0};
+    measured("entry_open", opened, &opens);
+    measured("entry_verdict", verdict, &asks);
 }
 
 int main(void) {
     automata();
-    bound = 14;
-    call(NULL); /* so that no symbol is left to be bound on a measured stack */
+    made.first = left[AGAIN], made.second = right[AGAIN], made.work_len = WORK, made.word_len = WORD;
+    contained(NULL); /* so that no symbol is left to be bound on a measured stack */
     used(nothing);
     base = used(nothing);
-    int ok = walks("contain", call, edition_contain_word);
-    ok &= walks("entry_offer", offer, edition_offer_word);
-    ok &= plain("entry_open", open_entry, EDITION_OPENED);
-    ok &= plain("entry_verdict", verdict, EDITION_YES);
-    return !ok;
+    contain_calls();
+    offer_calls();
+    plain_calls();
+    return failures != 0;
 }

@@ -9,7 +9,7 @@ use lib.Dec.{T, eqb, ltb, lt→ltb}
 use lib.ListN.{length, getD}
 use lib.Seq.{ext-getD}
 use Rattle.automaton.specs.declared.Automaton.{Automaton}
-use Rattle.automaton.specs.Sets.{bit, member}
+use Rattle.automaton.specs.Sets.{Bytes, bit, member}
 use Rattle.automaton.specs.Automata.{maxStates, maxLetters, accepts, place, transitionBit, transition, InRange}
 use Rattle.automaton.proofs.Tests.{and-both, both-and, same-test, clash}
 use Rattle.automaton.proofs.Transitions.{transition-parts, parts-transition}
@@ -42,11 +42,6 @@ same-bits (suc n) w v hw hv e =
     omega arith
 
 -- Sets by their members.
-
--- the bytes of a set, so many of them
-pub record Bytes (n : ℕ) (s : List ℕ) : Type 0 where
-  pub size : length s ≡ n
-  pub small : (i : ℕ) → getD s i 0 < 256
 
 same-bytes : (n : ℕ) (s t : List ℕ) → Bytes n s → Bytes n t
     → ((i j : ℕ) → i < n → j < 8 → bit (getD s i 0) j ≡ bit (getD t i 0) j) → s ≡ t

@@ -1,5 +1,5 @@
--- The editions' bound (01, "Entry, open, offer"): "Pairs of the two counts number at most 183,072 (the sum over n from 1 to 32 of
--- the number 16 times n squared plus 1)." An automaton's rank is the place of its pair in the order by states and then by
+-- The bound on editions (01, "Entry, open, offer"): with n states there are 16 n² + 1 possible numbers of transitions, 0 included, and added up
+-- for all 32 numbers of states that makes 183,072 pairs. An automaton's rank is the place of its pair in the order by states and then by
 -- transitions: it is below that number, and a smaller automaton has a lower one. Assumes nothing.
 use mathlib.Core.Path.{_≡_, refl, sym, ap, subst, _∙_}
 use mathlib.Core.Bool.{Bool, true, false}

@@ -1,12 +1,14 @@
--- The automaton as a value (01, "The file"; "In range" of "Entry, open, offer").
+-- The automaton as a value: what a file says of it (01, "The file"), and the range of its values (01, "Entry, open, offer").
 --   accepts A q            state q is accepting
 --   transition A q a r     there is a transition from q on letter a to r
 --   targets A q a          the targets of q on letter a, lowest first
 --   transitionCount A      the number of transitions
 --   bare n k i             n states, k letters, initial state i, nothing accepting and no transition
 --   withAccepting, withTransition   one accepting state, one transition more
---   InRange A, inRange A   "n, k and initial state as in a file, only states below n and letters below k used", said and computed
--- Assumes nothing.
+--   InRange A, inRange A   the header's numbers are those that a file may have, and no bit is set for a state or a letter that they
+--                          leave out: said, and computed
+-- Shown by `in-range-iff`: the two say the same. By `equal-automata` an automaton in range is known by its header, its accepting states and its
+-- transitions. Assumes nothing.
 use mathlib.Core.Bool.{Bool, true, false, _&&_, _||_, not}
 use mathlib.Core.List.{List}
 use Prim.Native.Nat.{ℕ, _+_, _*_, _/_, _%_, _≤_, _<_}
@@ -16,11 +18,11 @@ use Rattle.automaton.specs.declared.Automaton.{Automaton}
 use Rattle.automaton.specs.Ranges.{some, those, total}
 use Rattle.automaton.specs.Sets.{bit, withBit, member}
 
--- "number of states n (1 to 32)"
+-- the most states of a file; there is at least one
 abbrev pub maxStates : ℕ
 maxStates = 32
 
--- "number of letters k (1 to 16)"
+-- the most letters; there is at least one
 abbrev pub maxLetters : ℕ
 maxLetters = 16
 
@@ -38,7 +40,6 @@ transitionBit A q a r = bit (getD (A .transitions) (place q a r) 0) (r % 8)
 unfoldable pub transition : Automaton → ℕ → ℕ → ℕ → Bool
 transition A q a r = ltb q (A .states) && ltb a (A .letters) && ltb r (A .states) && transitionBit A q a r
 
--- "Targets are listed lowest first"
 unfoldable pub targets : Automaton → ℕ → ℕ → List ℕ
 targets A q a = those (transition A q a) (A .states) 0
 
@@ -73,7 +74,7 @@ withTransition A q a r =
       transitions = set (A .transitions) (place q a r) (withBit (getD (A .transitions) (place q a r) 0) (r % 8));
     }
 
--- a header's three numbers: "number of states n (1 to 32), number of letters k (1 to 16), initial state", a state below n
+-- a header's three numbers are in their ranges; the initial state is one of the n states
 unfoldable pub headerValues : ℕ → ℕ → ℕ → Bool
 headerValues n k i = leb 1 n && leb n maxStates && leb 1 k && leb k maxLetters && ltb i n
 

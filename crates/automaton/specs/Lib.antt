@@ -1,4 +1,4 @@
--- Everything of document 01 that speaks of automata alone: sets, the automaton, runs, lag, containment, lasso words, dead states.
+-- Automata as values: sets of states, the automaton with what it says and the range of its values, and how the code looks members up.
 pub mod Ranges
 pub mod Sets
 pub mod Automata

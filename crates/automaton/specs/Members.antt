@@ -1,5 +1,6 @@
--- Members as the code looks them up, in the bytes of a set and of an automaton's transitions. Of an automaton's own bytes and header
--- they are the members and transitions of `Automata`.
+-- Members as the code looks them up, in the bytes of a set and of an automaton's transitions; only contracts between functions name them.
+-- Shown by `transition-bit`, `targets-bits` and `count-bits`: of an automaton's own bytes and header they are the members and transitions of
+-- `Automata`.
 --   transitionIn t q a r   the bit for the transition from q on letter a to r in the bytes t
 --   nextFrom f n i         the least of the n numbers from i on at which f holds; i + n where there is none
 --   withMember s q         the bytes s with the bit for state q set

@@ -1,10 +1,11 @@
--- Tests, lists, sums and largest values over the n numbers from i on.
+-- Tests, lists, sums and largest values over the n numbers from i on: what the definitions of the other files go through states, letters and
+-- places with.
 --   some f n i      f holds at one of them
 --   those f n i     those of them at which f holds, lowest first
 --   table f n i     f of each of them
 --   largest f n i   the largest value of f at them; of none it is 0
 --   total f n i     the sum of f over them
--- Assumes nothing.
+-- Shown by `some-at` and `some-below`, `those-has` and `those-pass`, `table-at`, `largest-ub` and `largest-at`. Assumes nothing.
 use mathlib.Core.Bool.{Bool, true, false, _||_}
 use mathlib.Core.List.{List, [], _∷_}
 use Prim.Native.Nat.{ℕ, zero, suc, _+_, max}

@@ -2,15 +2,18 @@
 --   bit w i         bit i of the number w is set
 --   withBit w i     w with bit i set
 --   member S q      state q is in the set S: bit q % 8 of byte q / 8
---   leastMember w   the number, 0 to 7, of the lowest set bit of a byte; of 0 it is 8
+--   leastMember w   the lowest bit of a byte that is set; of 0 it is 8
 --   leastMembers    the least member of each byte, in a table
--- Assumes nothing.
+--   Bytes n s       s are n bytes
+-- Shown by `least-holds` and `least-before`: the least member is a member, and none is lower; that the code's table is this one, by the
+-- contract of `least_members`. Assumes nothing.
+use mathlib.Core.Path.{_≡_}
 use mathlib.Core.Bool.{Bool, true, false}
 use mathlib.Core.List.{List}
-use Prim.Native.Nat.{ℕ, zero, suc, _/_, _%_, _^_}
+use Prim.Native.Nat.{ℕ, zero, suc, _/_, _%_, _^_, _<_}
 use lib.Dec.{eqb}
 use lib.Bits.{bitOr}
-use lib.ListN.{getD}
+use lib.ListN.{length, getD}
 use Rattle.automaton.specs.Ranges.{table}
 
 abbrev pub bit : ℕ → ℕ → Bool
@@ -27,10 +30,13 @@ abbrev pub leastFrom : ℕ → ℕ → ℕ → ℕ
 leastFrom w zero i = i
 leastFrom w (suc n) i = elim (bit w i) [ true ↦ i | false ↦ leastFrom w n (suc i) ]
 
--- "the number, 0 to 7, of its lowest set bit; entry 0 is 8"
 unfoldable pub leastMember : ℕ → ℕ
 leastMember w = leastFrom w 8 0
 
--- "a fixed table of 256 entries"
 unfoldable pub leastMembers : List ℕ
 leastMembers = table leastMember 256 0
+
+-- so many bytes, each below 256
+pub record Bytes (n : ℕ) (s : List ℕ) : Type 0 where
+  pub size : length s ≡ n
+  pub small : (i : ℕ) → getD s i 0 < 256

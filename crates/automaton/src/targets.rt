@@ -3,6 +3,8 @@ ghost use mathlib.Core.Path.{_≡_};
 ghost use Prim.Native.Nat.{_<_, _≤_, _-_};
 ghost use Rattle.automaton.specs.Sets.{leastMembers};
 ghost use Rattle.automaton.specs.Members.{transitionIn, nextFrom, withBitFor};
+use crate::MAX_LETTERS;
+use crate::MAX_STATES;
 use crate::sets::cleared_below;
 use crate::sets::has_bit;
 use crate::sets::least_member;
@@ -13,7 +15,7 @@ pub fn transition_in(transitions: &[u8; 2048], q: usize, a: usize, r: usize) -> 
     requires { ⌜ (q < 32) × (a < 16) × (r < 32) ⌝ }
     ensures { λ b. ⌜ b ≡ transitionIn (now (transitions .entry)) q a r ⌝ }
 {
-    has_bit(transitions[(q * 16 + a) * 4 + r / 8], r % 8)
+    has_bit(transitions[(q * MAX_LETTERS + a) * 4 + r / 8], r % 8)
 }
 
 // The bit for the transition from q on letter a to r is set afterwards.
@@ -21,7 +23,7 @@ pub fn add_transition(transitions: &mut [u8; 2048], q: usize, a: usize, r: usize
     requires { ⌜ (q < 32) × (a < 16) × (r < 32) ⌝ }
     ensures { λ _. ⌜ now (transitions .exit) ≡ withBitFor (now (transitions .entry)) q a r ⌝ }
 {
-    let place = (q * 16 + a) * 4 + r / 8;
+    let place = (q * MAX_LETTERS + a) * 4 + r / 8;
     transitions[place] = with_bit(transitions[place], r % 8);
 }
 
@@ -38,16 +40,16 @@ pub fn next_target(
     ensures { λ t. ⌜ t ≡ nextFrom (transitionIn (now (transitions .entry)) q a) (32 - from) from ⌝ }
 {
     let mut r = from;
-    while r < 32 {
+    while r < MAX_STATES {
         let b = r / 8;
         let m = least_member(
             table,
-            cleared_below(transitions[(q * 16 + a) * 4 + b], r % 8),
+            cleared_below(transitions[(q * MAX_LETTERS + a) * 4 + b], r % 8),
         );
         if m < 8 {
             return b * 8 + m;
         }
         r = (b + 1) * 8;
     }
-    32
+    MAX_STATES
 }

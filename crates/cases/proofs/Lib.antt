@@ -1,2 +1,3 @@
 -- The proved cases.
 pub mod ProvedCases
+pub mod NoSimulation

@@ -1,4 +1,4 @@
--- The cases of document 01 that are marked P hold: one computed test over the whole table, and the law that turns the test into
+-- The cases marked P hold: one computed test over the whole table, and the law that turns the test into
 -- what is said of each case. Assumes nothing.
 use mathlib.Core.Path.{_≡_, refl, subst, sym}
 use mathlib.Core.Bool.{Bool, true, false, _&&_, Bool·beq}
@@ -8,27 +8,36 @@ use Prim.Native.Nat.{ℕ}
 use lib.Dec.{T, eqb, eqb→eq}
 use Rattle.automaton.specs.Ranges as ranges
 use Rattle.automaton.specs.Automata as automata
-use Rattle.sets.specs.Closure as paths
+use Rattle.relations.specs.Closure as paths
 use Rattle.automaton.proofs.Tests.{and-both}
-use Rattle.file.specs.File as file
-use Rattle.file.specs.File.{readFile}
-use Rattle.deadend.specs.DeadEnds as ends
+use Rattle.format.specs.Records as records
+use Rattle.format.specs.Writing as writing
+use Rattle.format.specs.File as file
+use Rattle.format.specs.File.{Read, refused, holds, readFile}
+use Rattle.deadstates.specs.DeadEnds as ends
 use Rattle.slots.specs.Slots as slots
 use Rattle.slots.specs.Slots.{sameList}
 use Rattle.slots.proofs.Vertices.{same-list-eq}
-use Rattle.walk.specs.LagGraph as graph
-use Rattle.walk.specs.Walks as walks
-use Rattle.contain.specs.Contain as contain
-use Rattle.contain.specs.Contain.{outcomeOf, outcomeNumber, wordPart}
-use Rattle.verdict.specs.Verdict as lasso
-use Rattle.cases.specs.Cases.{Case, call, verdict, judged, buffer, Right, cases}
+use Rattle.graph.specs.LagGraph as graph
+use Rattle.graph.specs.Walks as walks
+use Rattle.answers.specs.Contain as contain
+use Rattle.answers.specs.Contain.{outcomeOf, wordPart}
+use Rattle.boundary.specs.Numbers.{outcomeNumber}
+use Rattle.lassos.specs.Verdict as lasso
+use Rattle.lassos.specs.Verdict.{accepted}
+use Rattle.cases.specs.Cases.{Case, call, verdict, Judged, buffer, Right, cases}
+
+-- what a file's automaton comes to, as a test; a file that is refused fails it
+judged : Read → List ℕ → List ℕ → Bool → Bool
+judged (refused n) u v answer = false
+judged (holds A) u v answer = Bool·beq (accepted A u v) answer
 
 -- what is said of a case, as a test
 test : Case → Bool
 test (call f g b work word n part) =
     eqb (outcomeNumber (outcomeOf f g b (buffer work) (buffer word))) n
     && sameList (wordPart f g b (buffer work) (buffer word)) part
-test (verdict f u v answer) = Bool·beq (judged (readFile f) u v) answer
+test (verdict f u v answer) = judged (readFile f) u v answer
 
 beq-eq : (a b : Bool) → T (Bool·beq a b) → a ≡ b
 beq-eq true true t = refl
@@ -36,12 +45,20 @@ beq-eq true false t = absurd t
 beq-eq false true t = absurd t
 beq-eq false false t = refl
 
+judged-right : (f u v : List ℕ) (answer : Bool) → T (judged (readFile f) u v answer) → Judged f u v answer
+unfolding judged
+judged-right f u v answer t = go (readFile f) refl t
+  where
+    go : (r : Read) → readFile f ≡ r → T (judged r u v answer) → Judged f u v answer
+    go (refused n) e h = absurd h
+    go (holds A) e h = record { automaton = A; read = e; verdict-is = beq-eq (accepted A u v) answer h }
+
 test-right : (c : Case) → T (test c) → Right c
 unfolding test
 test-right (call f g b work word n part) t =
     let h = and-both (eqb (outcomeNumber (outcomeOf f g b (buffer work) (buffer word))) n) (sameList (wordPart f g b (buffer work) (buffer word)) part) t in
     (eqb→eq _ _ (h .0), same-list-eq _ _ (h .1))
-test-right (verdict f u v answer) t = beq-eq (judged (readFile f) u v) answer t
+test-right (verdict f u v answer) t = judged-right f u v answer t
 
 every : List Case → Bool
 every [] = true
@@ -55,7 +72,7 @@ each (d ∷ cs) t c m =
     ⊎-elim (λ e. subst (λ (x : Case). T (test x)) (sym e) (h .0)) (λ k. each cs (h .1) c k) (List·Memᴰ·cases-cons m)
 
 computed : T (every cases)
-unfolding every test judged flatMap ranges.some ranges.those ranges.table ranges.largest automata.accepts automata.transition automata.targets automata.bare automata.withAccepting automata.withTransition automata.headerValues paths.relation paths.through paths.rounds paths.closure file.header file.acceptingAt file.transitionAt file.endAt file.recordAt file.records file.readFile ends.edge ends.paths ends.live ends.dead ends.deadStates ends.hasDead slots.sameList slots.sameVertex slots.allZero graph.initialCounter graph.initialVertex graph.counter graph.stepped graph.successor graph.successors walks.walkOf walks.wordOf contain.compared contain.decision contain.outcomeOf contain.wordBuffer contain.wordPart lasso.only lasso.onLetter lasso.onWord lasso.loopRuns lasso.loopVisits lasso.accepted
+unfolding every test judged flatMap ranges.some ranges.those ranges.table ranges.largest automata.accepts automata.transition automata.targets automata.bare automata.withAccepting automata.withTransition automata.headerValues paths.relation paths.through paths.rounds paths.closure writing.itemsBytes records.recordIn file.header file.takes file.records file.readFile ends.edge ends.paths ends.live ends.dead ends.deadStates ends.hasDead slots.sameList slots.sameVertex slots.allZero graph.initialCounter graph.initialVertex graph.counter graph.stepped graph.successor graph.successors walks.walkOf walks.wordOf contain.comparing contain.deciding contain.containing contain.wordPart lasso.only lasso.onLetter lasso.onWord lasso.loopRuns lasso.loopVisits lasso.accepted
 computed = tt
 
 pub proved-cases : (c : Case) → List·Memᴰ c cases → Right c

@@ -1,27 +1,31 @@
--- The cases of document 01 that are marked P, as one table (01, "Worked automata").
+-- The cases marked P, as one table (01, "Worked automata").
 --   Case       a call of contain: two files, the bound, the bytes of work, the bytes of word; then the outcome's number and the
 --              letters that come back. Or a verdict: a file, a stem and a loop; then yes or no
---   Right c    what document 01 says of the case
+--   Judged     a file that holds an automaton, and the verdict on it
+--   Right c    the case comes to what its row says
 --   cases      the table
--- Assumes nothing.
+-- Shown by `proved-cases`. Assumes nothing.
 use mathlib.Core.Path.{_≡_}
 use mathlib.Core.Bool.{Bool, true, false}
 use mathlib.Core.List.{List, [], _∷_}
 use Prim.Native.Nat.{ℕ, _+_, _*_}
 use lib.ListN.{replicate}
-use Rattle.file.specs.File.{Read, refused, holds, readFile}
-use Rattle.contain.specs.Contain.{outcomeOf, outcomeNumber, wordPart}
-use Rattle.verdict.specs.Verdict.{accepted}
+use Rattle.automaton.specs.declared.Automaton.{Automaton}
+use Rattle.format.specs.File.{holds, readFile}
+use Rattle.answers.specs.Contain.{outcomeOf, wordPart}
+use Rattle.boundary.specs.Numbers.{outcomeNumber}
+use Rattle.lassos.specs.Verdict.{accepted}
 use Rattle.cases.specs.Worked.{F, G, H, J}
 
 pub data Case : Type 0 where
   call : List ℕ → List ℕ → ℕ → ℕ → ℕ → ℕ → List ℕ → Case
   verdict : List ℕ → List ℕ → List ℕ → Bool → Case
 
--- the verdict of the file's automaton
-unfoldable pub judged : Read → List ℕ → List ℕ → Bool
-judged (refused n) u v = false
-judged (holds A) u v = accepted A u v
+-- the file holds an automaton, and the verdict on it is the answer
+pub record Judged (f u v : List ℕ) (answer : Bool) : Type 0 where
+  pub automaton : Automaton
+  pub read : readFile f ≡ holds automaton
+  pub verdict-is : accepted automaton u v ≡ answer
 
 abbrev pub buffer : ℕ → List ℕ
 buffer n = replicate n 0
@@ -29,7 +33,7 @@ buffer n = replicate n 0
 abbrev pub Right : Case → Type 0
 Right (call f g b work word n part) =
     (outcomeNumber (outcomeOf f g b (buffer work) (buffer word)) ≡ n) × (wordPart f g b (buffer work) (buffer word) ≡ part)
-Right (verdict f u v answer) = judged (readFile f) u v ≡ answer
+Right (verdict f u v answer) = Judged f u v answer
 
 abbrev pub cases : List Case
 cases =

@@ -1,5 +1,5 @@
--- What contain's checks come to, check by check, and what the three promises of a call are then. Assumes nothing.
-use mathlib.Core.Path.{_≡_, refl, ap, sym, _∙_}
+-- What contain's checks come to, check by check: each law says which part of the definition a passed or failed check leads to. Assumes nothing.
+use mathlib.Core.Path.{_≡_, refl, ap}
 use mathlib.Core.Bool.{Bool, true, false, not}
 use mathlib.Core.Logic.{_≢_}
 use mathlib.Core.List.{List}
@@ -7,70 +7,65 @@ use Prim.Native.Nat.{ℕ, _≤_, _<_}
 use lib.Dec.{eqb, ltb}
 use borrow.Author.Tests.{lt-ltb, le-ltb, eq-eqb, ne-eqb}
 use Rattle.automaton.specs.declared.Automaton.{Automaton}
-use Rattle.file.specs.File.{refused, holds, readFile}
-use Rattle.deadend.specs.DeadEnds.{hasDead}
-use Rattle.walk.specs.LagGraph.{maxBound}
-use Rattle.slots.specs.declared.Vertex.{Vertex}
-use Rattle.walk.specs.Discovery.{Walk}
-use Rattle.walk.specs.Walks.{walkOf, workAfter}
-use Rattle.contain.specs.declared.Outcome.{Outcome}
-use Rattle.contain.specs.declared.Outcome.the-variants.{Refused}
-use Rattle.contain.specs.Contain.{Decision, stopped, walked, compared, decision, decided, decidedWork, decidedWord, walkOutcome, walkWord}
+use Rattle.format.specs.File.{refused, holds, readFile}
+use Rattle.deadstates.specs.DeadEnds.{hasDead}
+use Rattle.graph.specs.LagGraph.{maxBound}
+use Rattle.answers.specs.declared.Outcome.{Outcome}
+use Rattle.answers.specs.declared.Outcome.the-variants.{Refused, Compared}
+use Rattle.answers.specs.declared.Comparison.{Comparison}
+use Rattle.answers.specs.Contain.{Contain, comparing, afterWalk, refusing, deciding, containing}
 
-module _ (A B : Automaton) (b S : ℕ) where
-  pub bound-stops : maxBound < b → compared A B b S ≡ stopped 8 0
-  unfolding compared
-  bound-stops h = rw (lt-ltb maxBound b h)
-
-  module _ (h : b ≤ maxBound) where
-    pub letters-stop : A .letters ≢ B .letters → compared A B b S ≡ stopped 7 0
-    unfolding compared
-    letters-stop d = rw (le-ltb maxBound b h, ne-eqb (A .letters) (B .letters) d)
-
-    module _ (e : A .letters ≡ B .letters) where
-      pub first-dead-stops : hasDead A ≡ true → compared A B b S ≡ stopped 6 1
-      unfolding compared
-      first-dead-stops d = rw (le-ltb maxBound b h, eq-eqb (A .letters) (B .letters) e, d)
-
-      pub second-dead-stops : hasDead A ≡ false → hasDead B ≡ true → compared A B b S ≡ stopped 6 2
-      unfolding compared
-      second-dead-stops d f = rw (le-ltb maxBound b h, eq-eqb (A .letters) (B .letters) e, d, f)
-
-      pub checks-pass : hasDead A ≡ false → hasDead B ≡ false → compared A B b S ≡ walked A B (walkOf A B b S)
-      unfolding compared
-      checks-pass d f = rw (le-ltb maxBound b h, eq-eqb (A .letters) (B .letters) e, d, f)
-
-module _ (f g : List ℕ) (b S : ℕ) where
-  pub first-file-stops : (n : ℕ) → readFile f ≡ refused n → decision f g b S ≡ stopped n 1
-  unfolding decision
-  first-file-stops n e = rw e
-
-  pub second-file-stops : (A : Automaton) (n : ℕ) → readFile f ≡ holds A → readFile g ≡ refused n → decision f g b S ≡ stopped n 2
-  unfolding decision
-  second-file-stops A n d e = rw (d, e)
-
-  pub files-read : (A B : Automaton) → readFile f ≡ holds A → readFile g ≡ holds B → decision f g b S ≡ compared A B b S
-  unfolding decision
-  files-read A B d e = rw (d, e)
-
--- the outcome, the work buffer and the word buffer of a decision
-pub record Done (b S room : ℕ) (work word : List ℕ) (d : Decision) (x : Outcome) (work′ word′ : List ℕ) : Type 0 where
-  pub outcome : x ≡ decided b S room d
-  pub work-is : work′ ≡ decidedWork work d
-  pub word-is : word′ ≡ decidedWord b word d
+-- the three parts of what a call gives
+abbrev pub Gives : Contain → Outcome → List ℕ → List ℕ → Type 0
+Gives c x work′ word′ = (x ≡ c .outcome) × ((work′ ≡ c .work) × (word′ ≡ c .word))
 
 -- a refusal before the walk changes neither buffer
-pub stopped-done : (b S room : ℕ) (work word : List ℕ) (d : Decision) (n file : ℕ) → d ≡ stopped n file
-    → Done b S room work word d (Refused n file) work word
-stopped-done b S room work word d n file e = rw e (record { outcome = refl; work-is = refl; word-is = refl })
+pub refusing-gives : {c : Contain} (n file : ℕ) (work word : List ℕ) → c ≡ refusing n file work word → Gives c (Refused n file) work word
+refusing-gives n file work word e = rw e (refl, (refl, refl))
+
+-- another name of the same call
+pub same-gives : {c d : Contain} {x : Outcome} {work′ word′ : List ℕ} → c ≡ d → Gives d x work′ word′ → Gives c x work′ word′
+same-gives e g = rw e g
+
+module _ (A B : Automaton) (b : ℕ) (work word : List ℕ) where
+  pub bound-refuses : maxBound < b → deciding A B b work word ≡ refusing 8 0 work word
+  unfolding deciding
+  bound-refuses h = rw (lt-ltb maxBound b h)
+
+  module _ (h : b ≤ maxBound) where
+    pub letters-refuse : A .letters ≢ B .letters → deciding A B b work word ≡ refusing 7 0 work word
+    unfolding deciding
+    letters-refuse d = rw (le-ltb maxBound b h, ne-eqb (A .letters) (B .letters) d)
+
+    module _ (e : A .letters ≡ B .letters) where
+      pub first-dead-refuses : hasDead A ≡ true → deciding A B b work word ≡ refusing 6 1 work word
+      unfolding deciding
+      first-dead-refuses d = rw (le-ltb maxBound b h, eq-eqb (A .letters) (B .letters) e, d)
+
+      pub second-dead-refuses : hasDead A ≡ false → hasDead B ≡ true → deciding A B b work word ≡ refusing 6 2 work word
+      unfolding deciding
+      second-dead-refuses d f = rw (le-ltb maxBound b h, eq-eqb (A .letters) (B .letters) e, d, f)
+
+      pub checks-pass : hasDead A ≡ false → hasDead B ≡ false → deciding A B b work word ≡ afterWalk (comparing A B b work word)
+      unfolding deciding
+      checks-pass d f = rw (le-ltb maxBound b h, eq-eqb (A .letters) (B .letters) e, d, f)
 
 -- past the checks the walk decides
-pub walked-done : (b S room : ℕ) (work word : List ℕ) (d : Decision) (A B : Automaton) (w : Walk Vertex) (x : Outcome) (work′ word′ : List ℕ)
-    → d ≡ walked A B w → x ≡ walkOutcome A B b S room w → work′ ≡ workAfter work w → word′ ≡ walkWord A B b w word
-    → Done b S room work word d x work′ word′
-walked-done b S room work word d A B w x work′ word′ e o p q = rw e (record { outcome = o; work-is = p; word-is = q })
+pub walk-gives : {c : Contain} (A B : Automaton) (b : ℕ) (work word : List ℕ) (x : Comparison) (work′ word′ : List ℕ)
+    → c ≡ afterWalk (comparing A B b work word) → x ≡ comparing A B b work word .answer → work′ ≡ comparing A B b work word .work
+    → word′ ≡ comparing A B b work word .word → Gives c (Compared x) work′ word′
+walk-gives A B b work word x work′ word′ e d p q = rw e (ap Compared d, (p, q))
 
--- the same decision by another name
-pub decision-done : (b S room : ℕ) (work word : List ℕ) (d e : Decision) (x : Outcome) (work′ word′ : List ℕ) → d ≡ e
-    → x ≡ decided b S room e → work′ ≡ decidedWork work e → word′ ≡ decidedWord b word e → Done b S room work word d x work′ word′
-decision-done b S room work word d e x work′ word′ i o p q = rw i (record { outcome = o; work-is = p; word-is = q })
+module _ (f g : List ℕ) (b : ℕ) (work word : List ℕ) where
+  pub first-file-refuses : (n : ℕ) → readFile f ≡ refused n → containing f g b work word ≡ refusing n 1 work word
+  unfolding containing
+  first-file-refuses n e = rw e
+
+  pub second-file-refuses : (A : Automaton) (n : ℕ) → readFile f ≡ holds A → readFile g ≡ refused n
+      → containing f g b work word ≡ refusing n 2 work word
+  unfolding containing
+  second-file-refuses A n d e = rw (d, e)
+
+  pub files-read : (A B : Automaton) → readFile f ≡ holds A → readFile g ≡ holds B → containing f g b work word ≡ deciding A B b work word
+  unfolding containing
+  files-read A B d e = rw (d, e)

@@ -1,13 +1,3 @@
--- Laws of checks in order, what contain answers and leaves, its number, and demand 2.
-pub mod ChecksLaws
-pub mod FileRows
-pub mod WalkRows
+-- What the checks of contain and the answer of its walk come to.
 pub mod Decisions
-pub mod ContainTable
-pub mod ContainLeaves
-pub mod ContainAnswers
-pub mod ShownWords
-pub mod ContainTheorem
-pub mod ContainNumber
-pub mod OutcomeSizes
 pub mod WalkAnswers

@@ -1,4 +1,4 @@
--- What the walk's answer in code says of the walk, and the outcome that it comes to. Assumes nothing.
+-- What the walk's answer in code says of the walk, and what the walk of two automata gives then. Assumes nothing.
 use mathlib.Core.Path.{_≡_, refl, sym, ap, ap₂, _∙_}
 use mathlib.Core.List.{List}
 use Prim.Native.Nat.{ℕ}
@@ -10,12 +10,11 @@ use Rattle.slots.specs.declared.Vertex.{Vertex}
 use Rattle.slots.specs.Slots.{slotCount}
 use Rattle.walk.specs.declared.Walked.{Walked}
 use Rattle.walk.specs.declared.Walked.the-variants as answer
-use Rattle.walk.specs.Discovery.{Node, Walk, going, ended, full}
-use Rattle.walk.specs.Walks.{walkOf, workAfter, wordOf, wordAfter}
+use Rattle.graph.specs.Discovery.{Node, Walk, going, ended, full}
+use Rattle.graph.specs.Walks.{walkOf, workAfter, wordOf, wordAfter}
 use Rattle.walk.specs.Shown.{walkedOf, FoundFinal}
-use Rattle.contain.specs.declared.Outcome.{Outcome}
-use Rattle.contain.specs.declared.Outcome.the-variants.{Contained, Differs, NoSlots}
-use Rattle.contain.specs.Contain.{differing, walkOutcome, walkWord}
+use Rattle.answers.specs.declared.Comparison.the-variants.{Contained, NoSlots}
+use Rattle.answers.specs.Contain.{differing, comparison, walkWord}
 
 -- the walk ended with the final vertex that the answer tells
 pub record EndedAt (w : Walk Vertex) (place letter parent : ℕ) : Type 0 where
@@ -27,7 +26,7 @@ pub record EndedAt (w : Walk Vertex) (place letter parent : ℕ) : Type 0 where
   pub parent-is : parent ≡ last .parent
 
 module _ (S : ℕ) where
-  pub ended-at : (w : Walk Vertex) (place letter parent : ℕ) → answer.Differs place letter parent ≡ walkedOf S w
+  pub ended-at : (w : Walk Vertex) (place letter parent : ℕ) → answer.Ended place letter parent ≡ walkedOf S w
       → EndedAt w place letter parent
   ended-at (going ns) place letter parent e = absurd (let z : _≡_ {A = ℕ} 0 1 = cc in omega arith)
   ended-at (ended ns n) place letter parent e =
@@ -35,14 +34,14 @@ module _ (S : ℕ) where
   ended-at (full ns) place letter parent e = absurd (let z : _≡_ {A = ℕ} 0 1 = cc in omega arith)
 
   module _ (A B : Automaton) (b room : ℕ) (word : List ℕ) where
-    pub contained-outcome : (w : Walk Vertex) (n : ℕ) → answer.Contained n ≡ walkedOf S w
-        → (Contained n ≡ walkOutcome A B b S room w) × (word ≡ walkWord A B b w word)
+    pub contained-outcome : (w : Walk Vertex) (n : ℕ) → answer.Going n ≡ walkedOf S w
+        → (Contained n ≡ comparison A B b S room w) × (word ≡ walkWord A B b w word)
     contained-outcome (going ns) n e = (cc, refl)
     contained-outcome (ended ns m) n e = absurd (let z : _≡_ {A = ℕ} 0 1 = cc in omega arith)
     contained-outcome (full ns) n e = absurd (let z : _≡_ {A = ℕ} 0 1 = cc in omega arith)
 
     pub full-outcome : (w : Walk Vertex) (n : ℕ) → answer.Full n ≡ walkedOf S w
-        → (NoSlots n ≡ walkOutcome A B b S room w) × (word ≡ walkWord A B b w word)
+        → (NoSlots n ≡ comparison A B b S room w) × (word ≡ walkWord A B b w word)
     full-outcome (going ns) n e = absurd (let z : _≡_ {A = ℕ} 0 1 = cc in omega arith)
     full-outcome (ended ns m) n e = absurd (let z : _≡_ {A = ℕ} 0 1 = cc in omega arith)
     full-outcome (full ns) n e = (cc, refl)
@@ -70,9 +69,9 @@ module _ (A B : Automaton) (b : ℕ) (work after : List ℕ) (place letter paren
 -- the outcome and the word buffer of a walk that ended
 module _ (A B : Automaton) (b S : ℕ) {place letter parent : ℕ} where
   pub ended-outcome : (room len : ℕ) (w : Walk Vertex) (f : EndedAt w place letter parent)
-      → len ≡ length (wordOf A B b (f .nodes) (f .last)) → differing room place len ≡ walkOutcome A B b S room w
+      → len ≡ length (wordOf A B b (f .nodes) (f .last)) → differing room place len ≡ comparison A B b S room w
   ended-outcome room len w f e =
-      ap₂ (differing room) (f .place-is) e ∙ sym (ap (walkOutcome A B b S room) (f .is))
+      ap₂ (differing room) (f .place-is) e ∙ sym (ap (comparison A B b S room) (f .is))
 
   pub ended-word : (word after : List ℕ) (w : Walk Vertex) (f : EndedAt w place letter parent)
       → after ≡ wordAfter word (wordOf A B b (f .nodes) (f .last)) → after ≡ walkWord A B b w word

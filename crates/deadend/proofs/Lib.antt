@@ -1,3 +1,2 @@
--- The computed dead states are the dead states.
-pub mod DeadRight
+-- How the code of the dead-end test holds sets and relations.
 pub mod WordDeadEnds

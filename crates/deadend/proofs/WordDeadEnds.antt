@@ -4,7 +4,7 @@ use mathlib.Core.Path.{_≡_, refl, sym, ap, ap₂, _∙_}
 use mathlib.Core.Bool.{Bool, true, false, _&&_, _||_, not}
 use mathlib.Core.Logic.{⊎-elim}
 use mathlib.Core.List.{List}
-use Prim.Native.Nat.{ℕ, _≤_, _<_}
+use Prim.Native.Nat.{ℕ, _+_, _*_, _/_, _≤_, _<_}
 use native.Mathlib.Omega.{arith}
 use lib.Dec.{eqb, ltb, eqb→eq}
 use lib.ListN.{getD}
@@ -14,13 +14,13 @@ use Rattle.automaton.specs.Ranges.{some, table}
 use Rattle.automaton.specs.Sets.{bit, member}
 use Rattle.automaton.specs.Automata.{accepts, transition, transitionBit, InRange}
 use Rattle.automaton.specs.Members.{transitionIn}
-use Rattle.sets.specs.Closure.{related, relation, closure, reaches, holdsRow}
-use Rattle.deadend.specs.DeadEnds.{edge, paths, live, dead, deadStates, hasDead}
+use Rattle.relations.specs.Closure.{related, relation, closure, reaches, holdsRow}
+use Rattle.deadstates.specs.DeadEnds.{edge, paths, live, dead, deadStates, hasDead}
 use Rattle.automaton.proofs.Tests.{or-cases, T-true, not-T-false}
 use Rattle.automaton.proofs.Ranges.{table-at}
 use Rattle.automaton.proofs.InRange.{inHeader, in-header-iff}
-use Rattle.sets.proofs.Closure.{closure-below}
-use Rattle.sets.proofs.Rows.{table-same, some-same, some-cut}
+use Rattle.relations.proofs.Closure.{closure-below}
+use Rattle.relations.proofs.Rows.{table-same, some-same, some-cut}
 
 module _ (A : Automaton) (c : InRange A) where
   -- Edges and paths.
@@ -31,12 +31,15 @@ module _ (A : Automaton) (c : InRange A) where
       sym (ap (λ (b : Bool). b && transitionBit A q a r) (T-true (inHeader A q a r) (in-header-iff A q a r .1 (hq, ha, hr))))
 
   module _ (rows : List ℕ)
-      (e-rows : (q r : ℕ) → q < A .states → r < A .states
-      → holdsRow rows q r ≡ some (λ a. transitionIn (A .transitions) q a r) (A .letters) 0) where
+      (e-rows : (q r : ℕ) → q < A .states
+      → holdsRow rows q r ≡ (ltb r ((A .states + 7) / 8 * 8) && some (λ a. transitionIn (A .transitions) q a r) (A .letters) 0)) where
     edge-at : (q r : ℕ) → q < A .states → r < A .states → holdsRow rows q r ≡ edge A q r
     unfolding edge
     edge-at q r hq hr =
-        e-rows q r hq hr ∙ some-same _ _ (A .letters) (λ a ha. transition-at q a r hq ha hr)
+        e-rows q r hq
+        ∙ ap (λ (b : Bool). b && some (λ a. transitionIn (A .transitions) q a r) (A .letters) 0)
+        (lt-ltb r ((A .states + 7) / 8 * 8) (omega arith))
+        ∙ some-same _ _ (A .letters) (λ a ha. transition-at q a r hq ha hr)
 
     edges-table : relation (A .states) (holdsRow rows) ≡ relation (A .states) (edge A)
     unfolding relation

@@ -1,21 +1,23 @@
 // The dead-end test, with sets of states as words: what each state's transitions lead to, what paths of them lead to, the accepting
 // states that lie on a loop, and the reachable states that have no path to one.
 use automaton::Automaton;
+use automaton::MAX_LETTERS;
+use automaton::MAX_STATES;
 use automaton::cleared_below;
 use automaton::least_member;
 use automaton::least_members;
 ghost use mathlib.Core.Path.{_≡_};
 ghost use mathlib.Core.Bool.{false, _&&_, _||_, not};
 ghost use mathlib.Core.Logic.{_⊎_};
-ghost use Prim.Native.Nat.{ℕ, _+_, _*_, _<_, _≤_};
+ghost use Prim.Native.Nat.{ℕ, _+_, _*_, _/_, _<_, _≤_};
 ghost use lib.Dec.{ltb};
 ghost use lib.ListN.{length, getD};
 ghost use Rattle.automaton.specs.Ranges.{some, table};
 ghost use Rattle.automaton.specs.Sets.{bit, leastMembers};
 ghost use Rattle.automaton.specs.Automata.{InRange};
 ghost use Rattle.automaton.specs.Members.{transitionIn};
-ghost use Rattle.sets.specs.Closure.{holdsRow};
-ghost use Rattle.deadend.specs.DeadEnds.{deadStates, hasDead};
+ghost use Rattle.relations.specs.Closure.{holdsRow};
+ghost use Rattle.deadstates.specs.DeadEnds.{deadStates, hasDead};
 
 // Byte b of the targets of q on the first k letters together.
 fn edge_byte(transitions: &[u8; 2048], k: usize, q: usize, b: usize) -> u8
@@ -27,7 +29,7 @@ fn edge_byte(transitions: &[u8; 2048], k: usize, q: usize, b: usize) -> u8
     let mut byte: u8 = 0;
     let mut a: usize = 0;
     while a < k {
-        byte = byte | transitions[(q * 16 + a) * 4 + b];
+        byte = byte | transitions[(q * MAX_LETTERS + a) * 4 + b];
         a += 1;
     }
     byte
@@ -46,7 +48,7 @@ fn with_members(table: &[u8; 256], byte: u8, b: usize, set: u32) -> u32
         if m == 8 {
             return found;
         }
-        found = sets::with_state(found, b * 8 + m);
+        found = relations::with_state(found, b * 8 + m);
         i = m + 1;
     }
     found
@@ -55,7 +57,9 @@ fn with_members(table: &[u8; 256], byte: u8, b: usize, set: u32) -> u32
 // The targets of q on the first k letters, as far as the first `bytes` bytes hold them.
 fn edges(table: &[u8; 256], transitions: &[u8; 2048], bytes: usize, k: usize, q: usize) -> u32
     requires { ⌜ (now table ≡ leastMembers) × (bytes ≤ 4) × (k ≤ 16) × (q < 32) ⌝ }
-    ensures { λ w. ⌜ ((r : ℕ) → r < bytes * 8 → bit w r ≡ some (λ a. transitionIn (now (transitions .entry)) q a r) k 0) ⌝ }
+    ensures { λ w. ⌜
+        ((r : ℕ) → bit w r ≡ (ltb r (bytes * 8) && some (λ a. transitionIn (now (transitions .entry)) q a r) k 0))
+        ⌝ }
 {
     let mut found: u32 = 0;
     let mut b: usize = 0;
@@ -66,13 +70,15 @@ fn edges(table: &[u8; 256], transitions: &[u8; 2048], bytes: usize, k: usize, q:
     found
 }
 
-// Row q of the first n rows becomes the targets of q on the first k letters.
+// Row q of the first n rows becomes the targets of q on the first k letters, as far as the bytes of n states hold them; the rows from n on
+// stay.
 fn edge_rows(transitions: &[u8; 2048], n: usize, k: usize, rows: &mut [u32])
     requires { ⌜ (n ≤ 32) × (k ≤ 16) × (n ≤ length (now rows)) ⌝ }
-    ensures { λ _. ⌜
-        ((q r : ℕ) → q < n → r < n
-        → holdsRow (now (rows .exit)) q r ≡ some (λ a. transitionIn (now (transitions .entry)) q a r) k 0)
+    ensures first { λ _. ⌜
+        ((q r : ℕ) → q < n → holdsRow (now (rows .exit)) q r
+        ≡ (ltb r ((n + 7) / 8 * 8) && some (λ a. transitionIn (now (transitions .entry)) q a r) k 0))
         ⌝ }
+    ensures others { λ _. ⌜ ((q : ℕ) → n ≤ q → getD (now (rows .exit)) q 0 ≡ getD (now (rows .entry)) q 0) ⌝ }
 {
     let table = least_members();
     let bytes = (n + 7) / 8;
@@ -88,8 +94,8 @@ fn loops_at(accepting: u32, row: u32, q: usize) -> bool
     requires { ⌜ q < 32 ⌝ }
     ensures { λ b. ⌜ b ≡ (bit accepting q && bit row q) ⌝ }
 {
-    if sets::holds(accepting, q) {
-        sets::holds(row, q)
+    if relations::holds(accepting, q) {
+        relations::holds(row, q)
     } else {
         false
     }
@@ -103,7 +109,7 @@ fn on_loops(rows: &[u32], n: usize, accepting: u32) -> u32
     let mut found: u32 = 0;
     let mut q: usize = 0;
     while q < n {
-        found = sets::with_state_where(found, q, loops_at(accepting, rows[q], q));
+        found = relations::with_state_where(found, q, loops_at(accepting, rows[q], q));
         q += 1;
     }
     found
@@ -114,8 +120,8 @@ fn dead_at(reached: u32, loops: u32, row: u32, q: usize) -> bool
     requires { ⌜ q < 32 ⌝ }
     ensures { λ b. ⌜ b ≡ (bit reached q && not (some (λ r. bit row r && bit loops r) 32 0)) ⌝ }
 {
-    if sets::holds(reached, q) {
-        !sets::meets(row, loops)
+    if relations::holds(reached, q) {
+        !relations::meets(row, loops)
     } else {
         false
     }
@@ -132,7 +138,7 @@ fn dead_among(rows: &[u32], n: usize, reached: u32, loops: u32) -> u32
     let mut found: u32 = 0;
     let mut q: usize = 0;
     while q < n {
-        found = sets::with_state_where(found, q, dead_at(reached, loops, rows[q], q));
+        found = relations::with_state_where(found, q, dead_at(reached, loops, rows[q], q));
         q += 1;
     }
     found
@@ -146,30 +152,30 @@ pub fn dead_set(a: Automaton) -> u32
     let accepting = a.accepting;
     let n = a.states;
     let initial = a.initial;
-    let mut rows = [0u32; 32];
+    let mut rows = [0u32; MAX_STATES];
     edge_rows(&a.transitions, n, a.letters, &mut rows);
-    sets::close(&mut rows, n);
-    let loops = on_loops(&rows, n, sets::of_bytes(&accepting));
-    sets::add_diagonal(&mut rows, n);
+    relations::close(&mut rows, n);
+    let loops = on_loops(&rows, n, relations::of_bytes(&accepting));
+    relations::add_diagonal(&mut rows, n);
     let reached = rows[initial];
     dead_among(&rows, n, reached, loops)
 }
 
 // For each of the 32 states whether the set has it.
-fn flags(set: u32) -> [bool; 32]
+fn flags(set: u32) -> [bool; MAX_STATES]
     ensures { λ r. ⌜ r ≡ table (bit set) 32 0 ⌝ }
 {
-    let mut members = [false; 32];
+    let mut members = [false; MAX_STATES];
     let mut q: usize = 0;
-    while q < 32 {
-        members[q] = sets::holds(set, q);
+    while q < MAX_STATES {
+        members[q] = relations::holds(set, q);
         q += 1;
     }
     members
 }
 
 // For each of the 32 states whether it is dead.
-pub fn dead_states(a: Automaton) -> [bool; 32]
+pub fn dead_states(a: Automaton) -> [bool; MAX_STATES]
     requires { ⌜ InRange a ⌝ }
     ensures { λ r. ⌜ r ≡ deadStates a ⌝ }
 {
@@ -181,5 +187,5 @@ pub fn has_dead(a: Automaton) -> bool
     requires { ⌜ InRange a ⌝ }
     ensures { λ r. ⌜ r ≡ hasDead a ⌝ }
 {
-    sets::has_state(dead_set(a))
+    relations::has_state(dead_set(a))
 }

@@ -1,21 +1,3 @@
--- Laws of entries, what open, offer and verdict answer, and demand 3.
-pub mod EntryLaws
-pub mod Vetting
-pub mod OpenTable
-pub mod OfferTable
-pub mod VerdictTable
-pub mod OpenAnswers
-pub mod OfferAnswers
-pub mod VerdictAnswers
-pub mod OfferLeaves
-pub mod OfferShows
-pub mod LeftEntries
-pub mod OpenTurns
-pub mod OfferTurns
-pub mod Editions
-pub mod DemandThree
-pub mod EntryBytes
-pub mod EntryChecks
-pub mod OfferWalks
+-- What the checks of an offer and its two walks come to.
 pub mod OfferPassed
-pub mod OfferParts
+pub mod BothWalks

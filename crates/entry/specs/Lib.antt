@@ -1,12 +1,2 @@
--- Entries (01, "Verdict" and "Entry, open, offer").
-pub mod Entries
-pub mod Verdicts
-pub mod Opens
-pub mod Offers
+-- What the checks of an offer give, as the code holds it.
 pub mod Vetting
-pub mod Tables
-pub mod Calls
-pub mod Account
-pub mod Demand
-pub mod Numbers
-pub mod Bytes

@@ -2,8 +2,8 @@
 -- automaton field holds zeros, as it does in the reader's struct. Assumes nothing.
 use Rattle.automaton.specs.Automata.{bare}
 use Rattle.entry.specs.declared.Checked.{Checked}
-use Rattle.entry.specs.Opens.{Vetted, turned, passed}
+use Rattle.history.specs.Opens.{Vetted, stopped, passed}
 
 abbrev pub checkedOf : Vetted → Checked
-checkedOf (turned n) = record { refusal = n; automaton = bare 0 0 0 }
+checkedOf (stopped n) = record { refusal = n; automaton = bare 0 0 0 }
 checkedOf (passed A) = record { refusal = 0; automaton = A }

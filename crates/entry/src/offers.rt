@@ -1,45 +1,42 @@
 // The offer call on an entry.
 use crate::Checked;
-use crate::Entry;
-use crate::OfferAnswer;
-use crate::OfferResult;
-use crate::conditions::MAX_EDITION;
-use crate::conditions::malformed;
-use crate::conditions::smaller;
+use answers::Comparison;
 use automaton::Automaton;
+use conditions::MAX_EDITION;
+use conditions::malformed;
+use conditions::smaller;
 use contain::MAX_BOUND;
-use contain::Outcome;
 use contain::compare;
+use history::Entry;
+use history::OfferAnswer;
+use history::OfferResult;
 ghost use mathlib.Core.Path.{_≡_};
 ghost use Prim.Native.Nat.{_≤_};
 ghost use lib.ListN.{length, take};
 ghost use denote.Ref.{ptr};
 ghost use Rattle.automaton.specs.Automata.{InRange};
-ghost use Rattle.slots.specs.Slots.{slotCount};
-ghost use Rattle.walk.specs.LagGraph.{maxBound};
-ghost use Rattle.walk.specs.Walks.{walkOf, workAfter};
-ghost use Rattle.contain.specs.Contain.{walkWord};
-ghost use Rattle.entry.specs.Entries.{maxEdition};
-ghost use Rattle.entry.specs.Opens.{turned};
-ghost use Rattle.entry.specs.Offers.{
+ghost use Rattle.graph.specs.LagGraph.{maxBound};
+ghost use Rattle.history.specs.Entries.{maxEdition};
+ghost use Rattle.history.specs.Opens.{stopped};
+ghost use Rattle.history.specs.Offers.{
   offerChecks,
   backAnswer,
-  offerAnswer,
+  walksOf,
+  walksAnswer,
+  walksWork,
+  walksWord,
   isTaken,
   nextEdition,
-  settled,
+  entryOn,
   offerOf,
-  walksWork,
-  offerWork,
-  walksWord,
-  offerWord,
   partLength,
 };
+ghost use Rattle.history.specs.OfferDemand.{OfferDemand1};
 ghost use Rattle.entry.specs.Vetting.{checkedOf};
 
 // An offer that the checks refuse.
-fn turned(number: usize) -> Checked
-    ensures { λ r. ⌜ r ≡ checkedOf (turned number) ⌝ }
+fn stopped(number: usize) -> Checked
+    ensures { λ r. ⌜ r ≡ checkedOf (stopped number) ⌝ }
 {
     Checked {
         refusal: number,
@@ -52,30 +49,30 @@ pub fn offer_checks(entry: Entry, file: &[u8], bound: u64) -> Checked
     ensures { λ r. ⌜ r ≡ checkedOf (offerChecks entry (now (file .entry)) bound) ⌝ }
 {
     if malformed(entry) {
-        return turned(9);
+        return stopped(9);
     }
     if !entry.filled {
-        return turned(13);
+        return stopped(13);
     }
     let reading = file::read(file);
     let offer = reading.automaton;
     if reading.refusal != 0 {
-        return turned(reading.refusal);
+        return stopped(reading.refusal);
     }
     if bound > MAX_BOUND {
-        return turned(8);
+        return stopped(8);
     }
     if entry.held.letters != offer.letters {
-        return turned(7);
+        return stopped(7);
     }
     if deadend::has_dead(offer) {
-        return turned(6);
+        return stopped(6);
     }
     if !smaller(offer, entry.held) {
-        return turned(14);
+        return stopped(14);
     }
     if entry.edition == MAX_EDITION {
-        return turned(14);
+        return stopped(14);
     }
     Checked {
         refusal: 0,
@@ -83,38 +80,19 @@ pub fn offer_checks(entry: Entry, file: &[u8], bound: u64) -> Checked
     }
 }
 
-// The back walk, after a forward walk of so many vertices.
-fn walk_back(
-    held: Automaton,
-    offer: Automaton,
-    bound: usize,
-    count: usize,
-    work: &mut [u8],
-    word: &mut [u8],
-) -> OfferAnswer
-    requires { ⌜ InRange held × InRange offer × (bound ≤ maxBound) ⌝ }
-    ensures answer { λ r. ⌜
-        r ≡ backAnswer held offer bound (slotCount (length (now (work .entry)))) (length (now (word .entry))) count
-        (walkOf offer held bound (slotCount (length (now (work .entry)))))
-        ⌝ }
-    ensures work { λ r. ⌜
-        now (work .exit) ≡ workAfter (now (work .entry)) (walkOf offer held bound (slotCount (length (now (work .entry)))))
-        ⌝ }
-    ensures word { λ r. ⌜
-        now (word .exit)
-        ≡ walkWord offer held bound (walkOf offer held bound (slotCount (length (now (work .entry))))) (now (word .entry))
-        ⌝ }
+// The answer by the back walk, after a forward walk of so many vertices.
+fn back_answer(count: usize, back: Comparison) -> OfferAnswer
+    ensures { λ r. ⌜ r ≡ backAnswer count back ⌝ }
 {
-    match compare(offer, held, bound, work, word) {
-        Outcome::Contained(back) => OfferAnswer::Taken(count, back),
-        Outcome::Differs(place, len) => OfferAnswer::Back(count, place, len),
-        Outcome::Refused(number, _) => OfferAnswer::Refused(number),
-        Outcome::NoSlots(slots) => OfferAnswer::NoSlots(2, slots),
-        Outcome::NoRoom(len) => OfferAnswer::NoRoom(2, len),
+    match back {
+        Comparison::Contained(listed) => OfferAnswer::Taken(count, listed),
+        Comparison::Differs(place, len) => OfferAnswer::Back(count, place, len),
+        Comparison::NoSlots(slots) => OfferAnswer::NoSlots(2, slots),
+        Comparison::NoRoom(len) => OfferAnswer::NoRoom(2, len),
     }
 }
 
-// The forward walk and, where it finds containment, the back walk, both from the start of the work buffer.
+// The forward walk and, where it finds containment, the back walk, which begins in slot 0 again.
 fn walk_both(
     held: Automaton,
     offer: Automaton,
@@ -123,27 +101,17 @@ fn walk_both(
     word: &mut [u8],
 ) -> OfferAnswer
     requires { ⌜ InRange held × InRange offer × (bound ≤ maxBound) ⌝ }
-    ensures answer { λ r. ⌜
-        r ≡ offerAnswer held offer bound (slotCount (length (now (work .entry)))) (length (now (word .entry)))
-        (walkOf held offer bound (slotCount (length (now (work .entry)))))
-        (walkOf offer held bound (slotCount (length (now (work .entry)))))
-        ⌝ }
-    ensures work { λ r. ⌜
-        now (work .exit) ≡ walksWork (now (work .entry)) (walkOf held offer bound (slotCount (length (now (work .entry)))))
-        (walkOf offer held bound (slotCount (length (now (work .entry)))))
-        ⌝ }
-    ensures word { λ r. ⌜
-        now (word .exit) ≡ walksWord held offer bound (now (word .entry))
-        (walkOf held offer bound (slotCount (length (now (work .entry)))))
-        (walkOf offer held bound (slotCount (length (now (work .entry)))))
-        ⌝ }
+    ensures answer { λ r. ⌜ r ≡ walksAnswer (walksOf held offer bound (now (work .entry)) (now (word .entry))) ⌝ }
+    ensures work { λ r. ⌜ now (work .exit) ≡ walksWork (walksOf held offer bound (now (work .entry)) (now (word .entry))) ⌝ }
+    ensures word { λ r. ⌜ now (word .exit) ≡ walksWord (walksOf held offer bound (now (work .entry)) (now (word .entry))) ⌝ }
 {
     match compare(held, offer, bound, work, word) {
-        Outcome::Contained(count) => walk_back(held, offer, bound, count, work, word),
-        Outcome::Differs(place, len) => OfferAnswer::Forward(place, len),
-        Outcome::Refused(number, _) => OfferAnswer::Refused(number),
-        Outcome::NoSlots(slots) => OfferAnswer::NoSlots(1, slots),
-        Outcome::NoRoom(len) => OfferAnswer::NoRoom(1, len),
+        Comparison::Contained(count) => {
+            back_answer(count, compare(offer, held, bound, work, word))
+        }
+        Comparison::Differs(place, len) => OfferAnswer::Forward(place, len),
+        Comparison::NoSlots(slots) => OfferAnswer::NoSlots(1, slots),
+        Comparison::NoRoom(len) => OfferAnswer::NoRoom(1, len),
     }
 }
 
@@ -177,7 +145,7 @@ fn next_edition(entry: Entry, offer: Automaton) -> Entry
 // The answer of the walks with the entry that it leaves.
 fn settle(entry: Entry, offer: Automaton, answer: OfferAnswer) -> OfferResult
     requires { ⌜ entry .edition ≤ maxEdition ⌝ }
-    ensures { λ r. ⌜ r ≡ settled entry offer answer ⌝ }
+    ensures { λ r. ⌜ (r .answer ≡ answer) × (r .entry ≡ entryOn entry offer answer) ⌝ }
 {
     if is_taken(answer) {
         OfferResult {
@@ -189,7 +157,7 @@ fn settle(entry: Entry, offer: Automaton, answer: OfferAnswer) -> OfferResult
     }
 }
 
-// Offers the file's automaton as the next edition: the answer, the entry, and every byte of work and word.
+// Offers the file's automaton as the next edition: the answer, the entry, every byte of work and word, and demand 1 in its own words.
 pub fn offer_entry(
     entry: Entry,
     file: &[u8],
@@ -197,12 +165,20 @@ pub fn offer_entry(
     work: &mut [u8],
     word: &mut [u8],
 ) -> OfferResult
-    ensures result { λ r. ⌜
-        r ≡ offerOf entry (now (file .entry)) bound (now (work .entry)) (now (word .entry))
+    ensures answer { λ r. ⌜
+        r .answer ≡ offerOf entry (now (file .entry)) bound (now (work .entry)) (now (word .entry)) .answer
         ⌝ }
-    ensures work { λ r. ⌜ now (work .exit) ≡ offerWork entry (now (file .entry)) bound (now (work .entry)) ⌝ }
+    ensures entry { λ r. ⌜
+        r .entry ≡ offerOf entry (now (file .entry)) bound (now (work .entry)) (now (word .entry)) .entry
+        ⌝ }
+    ensures work { λ r. ⌜
+        now (work .exit) ≡ offerOf entry (now (file .entry)) bound (now (work .entry)) (now (word .entry)) .work
+        ⌝ }
     ensures word { λ r. ⌜
-        now (word .exit) ≡ offerWord entry (now (file .entry)) bound (now (work .entry)) (now (word .entry))
+        now (word .exit) ≡ offerOf entry (now (file .entry)) bound (now (work .entry)) (now (word .entry)) .word
+        ⌝ }
+    ensures demand1 { λ r. ⌜
+        OfferDemand1 entry (now (file .entry)) bound (now (work .entry)) (now (word .entry))
         ⌝ }
 {
     let checked = offer_checks(entry, file, bound);
@@ -230,8 +206,8 @@ pub fn part_length(answer: OfferAnswer) -> usize
     }
 }
 
-// The word that an offer's answer comes with, as the written part of the word buffer that the offer left, which is not copied; an
-// empty part where there is no word.
+// The word that an offer's answer comes with, as the written part of the word buffer that the offer left, which is not copied; without
+// a word the part is empty.
 pub fn offer_part<'a>(answer: OfferAnswer, word: &'a mut [u8]) -> &'a mut [u8]
     requires { ⌜ partLength answer ≤ length (now word) ⌝ }
     ensures part { λ r. ⌜ now r ≡ take (partLength answer) (now (word .entry)) ⌝ }

@@ -1,15 +1,16 @@
 // The open call on an entry.
-use crate::Entry;
-use crate::OpenAnswer;
-use crate::OpenResult;
-use crate::conditions::malformed;
 use automaton::Automaton;
+use conditions::malformed;
+use history::Entry;
+use history::OpenAnswer;
+use history::OpenResult;
 ghost use mathlib.Core.Path.{_≡_};
-ghost use Rattle.entry.specs.Opens.{turned, firstEdition, opened, openOf};
+ghost use Rattle.history.specs.OpenDemand.{OpenDemand1};
+ghost use Rattle.history.specs.Opens.{stopped, firstEdition, opened, openOf};
 
 // The entry stays where open is refused.
 fn refused(entry: Entry, number: usize) -> OpenResult
-    ensures { λ r. ⌜ r ≡ opened entry (turned number) ⌝ }
+    ensures { λ r. ⌜ r ≡ opened entry (stopped number) ⌝ }
 {
     OpenResult {
         answer: OpenAnswer::Refused(number),
@@ -29,9 +30,10 @@ fn first_edition(automaton: Automaton) -> Entry
     }
 }
 
-// Opens an empty entry with the file's automaton.
+// Opens an empty entry with the file's automaton: the answer, the entry, and demand 1 in its own words.
 pub fn open_entry(entry: Entry, file: &[u8]) -> OpenResult
-    ensures { λ r. ⌜ r ≡ openOf entry (now (file .entry)) ⌝ }
+    ensures result { λ r. ⌜ r ≡ openOf entry (now (file .entry)) ⌝ }
+    ensures demand1 { λ r. ⌜ OpenDemand1 entry (now (file .entry)) ⌝ }
 {
     if malformed(entry) {
         return refused(entry, 9);

@@ -1,14 +1,16 @@
 // The verdict call on an entry.
-use crate::Entry;
-use crate::VerdictAnswer;
-use crate::conditions::bad_lasso;
-use crate::conditions::malformed;
+use conditions::bad_lasso;
+use conditions::malformed;
+use history::Entry;
+use history::VerdictAnswer;
 ghost use mathlib.Core.Path.{_≡_};
-ghost use Rattle.entry.specs.Verdicts.{verdictOf};
+ghost use Rattle.history.specs.VerdictDemand.{VerdictDemand1};
+ghost use Rattle.history.specs.Verdicts.{verdictOf};
 
-// Whether the entry's automaton accepts the lasso word of the stem and the loop `turn`.
-pub fn verdict(entry: Entry, stem: &[u8], turn: &[u8]) -> VerdictAnswer
-    ensures { λ r. ⌜ r ≡ verdictOf entry (now (stem .entry)) (now (turn .entry)) ⌝ }
+// Whether the entry's automaton accepts the lasso word of the stem and the loop `cycle`, and demand 1 in its own words.
+pub fn verdict(entry: Entry, stem: &[u8], cycle: &[u8]) -> VerdictAnswer
+    ensures answer { λ r. ⌜ r ≡ verdictOf entry (now (stem .entry)) (now (cycle .entry)) ⌝ }
+    ensures demand1 { λ r. ⌜ VerdictDemand1 entry (now (stem .entry)) (now (cycle .entry)) ⌝ }
 {
     if malformed(entry) {
         return VerdictAnswer::Refused(9);
@@ -16,10 +18,10 @@ pub fn verdict(entry: Entry, stem: &[u8], turn: &[u8]) -> VerdictAnswer
     if !entry.filled {
         return VerdictAnswer::Refused(13);
     }
-    if bad_lasso(entry.held.letters, stem, turn) {
+    if bad_lasso(entry.held.letters, stem, cycle) {
         return VerdictAnswer::Refused(15);
     }
-    if verdict::accepted(entry.held, stem, turn) {
+    if verdict::accepted(entry.held, stem, cycle) {
         VerdictAnswer::Yes
     } else {
         VerdictAnswer::No

@@ -6,8 +6,9 @@ use Prim.Native.Nat.{ℕ}
 use native.Mathlib.Omega.{arith}
 use Rattle.automaton.specs.Automata.{InRange}
 use Rattle.file.specs.declared.Reading.{Reading}
-use Rattle.file.specs.File.{Read, refused, holds, readFile, readingOf}
-use Rattle.file.proofs.FileLaws.{file-refusals, file-in-range}
+use Rattle.format.specs.File.{Read, refused, holds, readFile}
+use Rattle.file.specs.Taking.{readingOf}
+use Rattle.format.proofs.FileLaws.{file-refusals, file-in-range}
 
 module _ (s : List ℕ) (r : Reading) (is : r ≡ readingOf (readFile s)) where
   pub reading-holds : r .refusal ≡ 0 → readFile s ≡ holds (r .automaton)

@@ -1,11 +1,11 @@
--- A record read in two parts, its bytes and then what it does to the automaton so far, is the record of the definition; and the cases
--- of each part. Each law goes by the tests in their order. Assumes nothing.
-use mathlib.Core.Path.{_≡_, refl, sym, ap, subst, _∙_}
-use mathlib.Core.Bool.{Bool, true, false, cond, _&&_}
+-- The parts of a reading as the code goes through them: the header's tests, what a record does to the header and the two sets of bytes, and how
+-- the reading goes on after it. Each law goes by the tests in their order. Assumes nothing.
+use mathlib.Core.Path.{_≡_, sym, ap, subst, _∙_}
+use mathlib.Core.Bool.{Bool, true, false, _&&_}
 use mathlib.Core.List.{List}
 use Prim.Native.Nat.{ℕ, _+_, _≤_, _<_}
 use native.Mathlib.Omega.{arith}
-use lib.Dec.{eqb, ltb}
+use lib.Dec.{ltb}
 use lib.ListN.{length, getD}
 use borrow.Author.Tests.{le-leb, lt-leb, lt-ltb, le-ltb}
 use Rattle.automaton.specs.declared.Automaton.{Automaton}
@@ -14,45 +14,21 @@ use Rattle.automaton.specs.Automata.{accepts, transition, bare, withAccepting, 
 use Rattle.automaton.specs.Members.{transitionIn, withMember, withBitFor}
 use Rattle.automaton.proofs.InRange.{header-values-iff}
 use Rattle.automaton.proofs.Bits.{bare-header}
-use Rattle.records.specs.declared.Record.{Record}
-use Rattle.records.specs.declared.Record.the-variants.{Fault, Accepting, Transition, End}
-use Rattle.records.specs.Marks.{has, marked}
-use Rattle.records.specs.Records.{checkRecord, acceptingRecord, transitionRecord, endRecord, recordIn}
+use Rattle.format.specs.declared.Record.{Record}
+use Rattle.format.specs.declared.Record.the-variants.{Accepting, Transition}
+use Rattle.format.specs.Marks.{marked, headerMark}
+use Rattle.format.specs.Records.{recordIn}
 use Rattle.file.specs.declared.Header.{Header}
 use Rattle.file.specs.declared.Start.{Start}
 use Rattle.file.specs.declared.Start.the-variants.{NoHeader, Begins}
 use Rattle.file.specs.declared.Progress.{Progress}
 use Rattle.file.specs.declared.Progress.the-variants.{Refused, Whole, Goes}
-use Rattle.file.specs.File.{Read, Step, over, next, refused, holds, check, header, acceptingAt, transitionAt, endAt}
-use Rattle.file.specs.File.{recordAt, records, readFile}
-use Rattle.file.specs.Taking.{wholeOf, startStep, takes, progressStep, readPast, leftBy, Taken}
-use Rattle.file.proofs.RecordSteps.{HeaderStep, no-header, starts, header-step, record-advances}
-use Rattle.file.proofs.RecordSteps.{readAfter, read-file, read-over, read-next}
+use Rattle.format.specs.File.{Read, Step, over, next, refused, holds, check, header, takes, recordAt, records, readFile}
+use Rattle.file.specs.Taking.{wholeOf, startStep, progressStep, readPast, leftBy, Taken}
+use Rattle.format.proofs.RecordSteps.{HeaderStep, no-header, starts, header-step, record-advances}
+use Rattle.format.proofs.RecordSteps.{readAfter, read-file, read-over, read-next}
 
--- The two parts together.
-
-takes-check : (c : Bool) (n : ℕ) (x : Record) (A : Automaton) → takes (checkRecord c n x) A ≡ check c n (takes x A)
-unfolding takes
-takes-check true n x A = refl
-takes-check false n x A = refl
-
-pub record-takes : (s : List ℕ) (i : ℕ) (A : Automaton) → recordAt s i A ≡ takes (recordIn s i) A
-unfolding recordAt recordIn acceptingAt transitionAt endAt takes
-record-takes s i A =
-    sym
-    (takes-check (has s i 2) 1 _ A
-    ∙ ap (check (has s i 2) 1)
-    (either (marked s i 0x46) (acceptingRecord s i) _ (takes-check (has s i 3) 1 _ A)
-    (either (marked s i 0x54) (transitionRecord s i) _ (takes-check (has s i 5) 1 _ A)
-    (either (marked s i 0x45) (endRecord s i) (Fault 2) (takes-check (eqb (length s) (i + 2)) 2 End A) refl))))
-  where
-    either : (c : Bool) (x y : Record) {u v : Step} → takes x A ≡ u → takes y A ≡ v → takes (cond c x y) A ≡ cond c u v
-    either true x y p q = p
-    either false x y p q = q
-
--- with x the record that was read
-pub record-is : (s : List ℕ) (i : ℕ) (A : Automaton) (x y : Record) → x ≡ recordIn s i → x ≡ y → recordAt s i A ≡ takes y A
-record-is s i A x y d e = record-takes s i A ∙ ap (λ (z : Record). takes z A) (sym d ∙ e)
+-- The step of a record that was read.
 
 -- what a record came to, with B left of A
 pub taken : {x : Step} (p : Progress) {A B : Automaton} → x ≡ progressStep p B → leftBy (progressStep p B) A ≡ B → Taken x p A B
@@ -60,7 +36,7 @@ taken p {A} e l = record { step = e; left = sym (ap (λ y. leftBy y A) e ∙ l) 
 
 pub record-taken : (s : List ℕ) (i : ℕ) (A : Automaton) (x y : Record) {p : Progress} {B : Automaton} → x ≡ recordIn s i → x ≡ y
     → Taken (takes y A) p A B → Taken (recordAt s i A) p A B
-record-taken s i A x y {p} {B} d e h = subst (λ (z : Step). Taken z p A B) (sym (record-is s i A x y d e)) h
+record-taken s i A x y {p} {B} d e h = subst (λ (z : Record). Taken (takes z A) p A B) (sym e ∙ d) h
 
 -- The header.
 
@@ -69,11 +45,11 @@ module _ (s : List ℕ) where
   unfolding header
   header-short h = rw (lt-leb 2 (length s) h)
 
-  pub header-unmarked : 2 ≤ length s → marked s 0 0x48 ≡ false → header s ≡ over (refused 2)
+  pub header-unmarked : 2 ≤ length s → marked s 0 headerMark ≡ false → header s ≡ over (refused 2)
   unfolding header
   header-unmarked h e = rw (le-leb 2 (length s) h, e)
 
-  module _ (e : marked s 0 0x48 ≡ true) where
+  module _ (e : marked s 0 headerMark ≡ true) where
     pub header-cut : 2 ≤ length s → length s < 5 → header s ≡ over (refused 1)
     unfolding header
     header-cut h l = rw (le-leb 2 (length s) h, e, lt-leb 5 (length s) l)
@@ -143,17 +119,17 @@ abbrev Starts : List ℕ → Step → Type 0
 Starts s (over r) = Unit {0}
 Starts s (next j A) = (A .states ≤ 32) × (A .letters ≤ 16) × (5 ≤ length s)
 
-header-starts : {s : List ℕ} {x : Step} → HeaderStep s x → Starts s x
-header-starts (no-header l m) = tt
-header-starts {s} (starts m f v) =
-    let b = header-values-iff (getD s 2 0) (getD s 3 0) (getD s 4 0) .0 v in
-    let h = bare-header (getD s 2 0) (getD s 3 0) (getD s 4 0) in
-    (omega (arith, h .0, b .1), omega (arith, h .1, b .3), f)
+step-starts : {s : List ℕ} {x : Step} → HeaderStep s x → Starts s x
+step-starts (no-header f) = tt
+step-starts (starts n k i t e v) =
+    let b = header-values-iff n k i .0 v in
+    let h = bare-header n k i in
+    (omega (arith, h .0, b .1), omega (arith, h .1, b .3), omega (arith, ap length e))
 
 pub header-holds : (s : List ℕ) (x : Start) (h : Header) → startStep x ≡ header s → x ≡ Begins h
     → (h .states ≤ 32) × (h .letters ≤ 16) × (5 ≤ length s)
 header-holds s x h d e =
-    let r = subst (Starts s) (sym d ∙ ap startStep e) (header-starts (header-step s)) in
+    let r = subst (Starts s) (sym d ∙ ap startStep e) (step-starts (header-step s)) in
     let b = bare-header (h .states) (h .letters) (h .initial) in
     (omega (arith, b .0, r .0), omega (arith, b .1, r .1), r .2)
 

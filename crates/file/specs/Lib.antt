@@ -1,3 +1,2 @@
--- The file (01, "The file").
-pub mod File
+-- How the code holds a step of the reading.
 pub mod Taking

@@ -1,9 +1,9 @@
-// The reader of automaton files: it goes through the file record by record, and the first fault decides.
+// The reader of automaton files: the header, and then one record after another up to the end record or the first fault.
 ghost use mathlib.Core.Path.{_≡_};
 ghost use Prim.Native.Nat.{_≤_};
 ghost use lib.ListN.{length};
-ghost use Rattle.file.specs.File.{refused, holds, readFile, readingOf};
-ghost use Rattle.file.specs.Taking.{wholeOf, readPast};
+ghost use Rattle.format.specs.File.{refused, holds, readFile};
+ghost use Rattle.file.specs.Taking.{readingOf, wholeOf, readPast};
 use automaton::Automaton;
 
 mod first;

@@ -45,7 +45,7 @@ fn show_automaton(a: Automaton)
 {
     show_number(b" states ", a.states);
     show_number(b" letters ", a.letters);
-    show_number(b" transitions ", measure::transition_count(a));
+    show_number(b" transitions ", range_test::transition_count(a));
     show_dead(a);
 }
 

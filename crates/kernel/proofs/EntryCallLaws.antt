@@ -1,58 +1,45 @@
 -- What the calls on an entry's bytes need: bytes of an entry have its length, the numbers of the answers fit 64 bits, and the entry that
 -- opened or taken leaves fits its bytes. Assumes nothing.
-use mathlib.Core.Path.{_≡_, refl, sym, ap, subst, _∙_}
-use mathlib.Core.Bool.{Bool, true, false, cond, _||_, not}
+use mathlib.Core.Path.{_≡_, refl, sym, ap, ap₂, subst, _∙_}
+use mathlib.Core.Bool.{Bool, true, false, cond, _||_}
 use mathlib.Core.List.{List}
 use Prim.Native.Nat.{ℕ, _+_, _*_, _^_, _≤_, _<_}
 use native.Mathlib.Omega.{arith}
-use lib.Dec.{eqb, leb, ltb, eqb→eq}
+use lib.Dec.{eqb, eqb→eq}
 use lib.ListN.{length, getD}
-use borrow.Author.Tests.{not-false}
 use Rattle.automaton.specs.declared.Automaton.{Automaton}
 use Rattle.automaton.specs.Automata.{InRange}
 use Rattle.automaton.proofs.Tests.{and-both, is-true}
-use Rattle.file.specs.File.{readFile}
-use Rattle.file.proofs.FileLaws.{file-in-range}
-use Rattle.deadend.specs.DeadEnds.{hasDead}
-use Rattle.slots.specs.declared.Vertex.{Vertex}
+use Rattle.format.specs.File.{readFile}
+use Rattle.format.proofs.FileLaws.{file-in-range}
+use Rattle.deadstates.specs.DeadEnds.{hasDead}
 use Rattle.slots.specs.Slots.{maxSlots, slotCount}
-use Rattle.walk.specs.Discovery.{Node, Walk, going, ended, full}
-use Rattle.walk.specs.LagGraph.{maxBound}
-use Rattle.walk.specs.Walks.{walkOf, wordOf}
-use Rattle.walk.proofs.WalkTheorem.{walk-ended, list-word-length}
-use Rattle.contain.proofs.ChecksLaws.{test-false}
-use Rattle.contain.proofs.OutcomeSizes.{slot-count-le}
-use Rattle.entry.specs.declared.Entry.{Entry}
-use Rattle.entry.specs.declared.OpenAnswer.{OpenAnswer}
-use Rattle.entry.specs.declared.OpenAnswer.the-variants.{Opened, Refused as OpenRefused}
-use Rattle.entry.specs.declared.OpenResult.{OpenResult}
-use Rattle.entry.specs.declared.OfferAnswer.{OfferAnswer}
-use Rattle.entry.specs.declared.OfferAnswer.the-variants.{Taken, Forward, Back, Refused, NoSlots, NoRoom}
-use Rattle.entry.specs.declared.OfferResult.{OfferResult}
-use Rattle.entry.specs.declared.VerdictAnswer.{VerdictAnswer}
-use Rattle.entry.specs.declared.VerdictAnswer.the-variants.{Yes, No, Refused as VerdictRefused}
-use Rattle.entry.specs.Entries.{maxEdition, malformed, smaller, WellFormed}
-use Rattle.entry.specs.Verdicts.{verdictOf}
-use Rattle.entry.specs.Opens.{Vetted, turned, passed, openChecks, opened, openOf, firstEdition}
-use Rattle.entry.specs.Offers.{
-  offerChecks,
-  offerAnswer,
-  isTaken,
-  offered,
-  offerOf,
-  nextEdition,
-  offerWork,
-  offerWord,
-}
-use Rattle.entry.specs.Bytes.{entryLength, isEntry, entryOf, FitsBytes}
-use Rattle.entry.specs.Numbers.{openNumber, offerNumber, verdictNumber}
-use Rattle.entry.proofs.EntryLaws.{malformed-iff, well-formed-stable}
-use Rattle.contain.proofs.ChecksLaws.{by-test, by-read}
-use Rattle.entry.proofs.VerdictAnswers.{VerdictRefusal, malformed-entry, empty-entry, bad-lasso, VerdictListed, verdict-numbers}
-use Rattle.entry.proofs.OpenAnswers.{OpenRefusal, already-open, bad-file, dead-state, OpenListed, open-numbers}
-use Rattle.entry.proofs.OpenAnswers as opens
-use Rattle.entry.proofs.OfferAnswers.{OfferRefusal, WalkNumber, forward-walk, back-walk, OfferListed, offer-numbers}
-use Rattle.entry.proofs.OfferAnswers as offers
+use Rattle.boundary.proofs.OutcomeSizes.{slot-count-le}
+use Rattle.history.specs.declared.Entry.{Entry}
+use Rattle.history.specs.declared.OpenAnswer.{OpenAnswer}
+use Rattle.history.specs.declared.OpenAnswer.the-variants.{Opened, Refused as OpenRefused}
+use Rattle.history.specs.declared.OpenResult.{OpenResult}
+use Rattle.history.specs.declared.OfferAnswer.{OfferAnswer}
+use Rattle.history.specs.declared.OfferAnswer.the-variants.{Taken, Forward, Back, Refused, NoSlots, NoRoom}
+use Rattle.history.specs.declared.OfferResult.{OfferResult}
+use Rattle.history.specs.declared.VerdictAnswer.{VerdictAnswer}
+use Rattle.history.specs.declared.VerdictAnswer.the-variants.{Yes, No, Refused as VerdictRefused}
+use Rattle.history.specs.Entries.{malformed, WellFormed}
+use Rattle.history.specs.Verdicts.{verdictOf}
+use Rattle.history.specs.Opens.{Vetted, stopped, passed, openChecks, opened, openOf, firstEdition}
+use Rattle.history.specs.Offers.{Offer, isTaken, offerOf, nextEdition}
+use Rattle.history.proofs.OfferCases.{by-offer}
+use Rattle.boundary.specs.Bytes.{entryLength, isEntry, entryOf, FitsBytes}
+use Rattle.boundary.specs.Numbers.{openNumber, offerNumber, verdictNumber}
+use Rattle.answers.proofs.ChecksLaws.{by-test, by-read}
+use Rattle.history.specs.VerdictDemand.{VerdictRefusal, malformed-entry, empty-entry, bad-lasso, VerdictListed}
+use Rattle.history.proofs.VerdictAnswers.{verdict-numbers}
+use Rattle.history.specs.OpenDemand.{OpenRefusal, already-open, bad-file, dead-state, OpenListed}
+use Rattle.history.specs.OpenDemand as opens
+use Rattle.history.proofs.OpenAnswers.{open-numbers}
+use Rattle.history.specs.OfferDemand.{OfferRefusal, WalkNumber, forward-walk, back-walk, OfferListed}
+use Rattle.history.specs.OfferDemand as offers
+use Rattle.history.proofs.OfferAnswers.{offer-numbers}
 use Rattle.kernel.specs.EntryCalls.{
   noEntry,
   isOpened,
@@ -121,17 +108,17 @@ module _ (E : Entry) (f : List ℕ) where
   abbrev OpenedFits : Vetted → Type 0
   OpenedFits v = isOpened (opened E v .answer) ≡ true → FitsBytes (opened E v .entry)
 
-  not-opened : (n : ℕ) → OpenedFits (turned n)
+  not-opened : (n : ℕ) → OpenedFits (stopped n)
   not-opened n e = let z : _≡_ {A = ℕ} 0 1 = cc in absurd (omega arith)
 
   -- the entry that opened leaves fits its bytes
   pub opened-fits : isOpened (openOf E f .answer) ≡ true → FitsBytes (openOf E f .entry)
   unfolding openOf openChecks
   opened-fits =
-      by-test OpenedFits (malformed E) (turned 9) _ (λ _. not-opened 9) λ _.
-      by-test OpenedFits (E .filled) (turned 12) _ (λ _. not-opened 12) λ _.
-      by-read OpenedFits (readFile f) turned _ (λ n _. not-opened n) λ A e.
-      by-test OpenedFits (hasDead A) (turned 6) (passed A) (λ _. not-opened 6) λ _ _.
+      by-test OpenedFits (malformed E) (stopped 9) _ (λ _. not-opened 9) λ _.
+      by-test OpenedFits (E .filled) (stopped 12) _ (λ _. not-opened 12) λ _.
+      by-read OpenedFits (readFile f) stopped _ (λ n _. not-opened n) λ A e.
+      by-test OpenedFits (hasDead A) (stopped 6) (passed A) (λ _. not-opened 6) λ _ _.
       first-edition-fits A (file-in-range f A e)
 
 module _ (s f : List ℕ) where
@@ -181,43 +168,6 @@ slots-number-fits : (i n : ℕ) → i ≤ 2 → n ≤ maxSlots → (c : Bool)
 slots-number-fits i n h k true = omega arith
 slots-number-fits i n h k false = omega arith
 
--- the length in the number
-abbrev wordLength : OfferAnswer → ℕ
-wordLength (Taken m n) = 0
-wordLength (Forward m len) = len
-wordLength (Back m n len) = len
-wordLength (Refused n) = 0
-wordLength (NoSlots i n) = 0
-wordLength (NoRoom i len) = len
-
-either-length-le : (walk len S : ℕ) (x : OfferAnswer) → wordLength x ≡ len → len ≤ S → (c : Bool)
-    → wordLength (cond c x (NoRoom walk len)) ≤ S
-either-length-le walk len S x e h true = omega (arith, e)
-either-length-le walk len S x e h false = h
-
--- a walk's word is no longer than its list
-module _ (A B : Automaton) (b S : ℕ) where
-  ended-length-le : (ns : List (Node Vertex)) (n : Node Vertex) → walkOf A B b S ≡ ended ns n → length (wordOf A B b ns n) ≤ S
-  ended-length-le ns n e =
-      let f = walk-ended A B b S ns n .0 e in omega (arith, list-word-length A B b S ns n f, f .room)
-
-walks-length-le : (H B : Automaton) (b S room : ℕ) (w back : Walk Vertex) → walkOf H B b S ≡ w → walkOf B H b S ≡ back
-    → wordLength (offerAnswer H B b S room w back) ≤ S
-walks-length-le H B b S room (going ns) (going ms) d e = omega arith
-walks-length-le H B b S room (going ns) (ended ms m) d e =
-    let len = length (wordOf B H b ms m) in
-    either-length-le 2 len S (Back (length ns) (length ms) len) refl (ended-length-le B H b S ms m e) (leb len room)
-walks-length-le H B b S room (going ns) (full ms) d e = omega arith
-walks-length-le H B b S room (ended ns n) back d e =
-    let len = length (wordOf H B b ns n) in
-    either-length-le 1 len S (Forward (length ns) len) refl (ended-length-le H B b S ns n d) (leb len room)
-walks-length-le H B b S room (full ns) back d e = omega arith
-
-vetted-length-le : (E : Entry) (b S room : ℕ) (v : Vetted) → wordLength (offered E b S room v .answer) ≤ S
-vetted-length-le E b S room (turned n) = omega arith
-vetted-length-le E b S room (passed B) =
-    walks-length-le (E .held) B b S room (walkOf (E .held) B b S) (walkOf B (E .held) b S) refl refl
-
 next-edition-fits : (E : Entry) (B : Automaton) → WellFormed E → InRange B → FitsBytes (nextEdition E B)
 next-edition-fits E B w r =
     record {
@@ -229,54 +179,36 @@ next-edition-fits E B w r =
     }
 
 module _ (E : Entry) (f : List ℕ) (b : ℕ) (work word : List ℕ) where
-  offer-length-le : wordLength (offerOf E f b work word .answer) ≤ slotCount (length work)
-  unfolding offerOf
-  offer-length-le = vetted-length-le E b (slotCount (length work)) (length word) (offerChecks E f b)
-
   pub offer-number-fits : offerNumber (offerOf E f b work word .answer) < 2 ^ 64
   offer-number-fits =
-      go (offerOf E f b work word .answer) (offer-numbers E f b work word) offer-length-le (slot-count-le (length work))
+      go (offerOf E f b work word .answer) (offer-numbers E f b work word) (slot-count-le (length work))
     where
-      go : (x : OfferAnswer) → OfferListed (slotCount (length work)) (length word) x → wordLength x ≤ slotCount (length work)
-          → slotCount (length work) ≤ maxSlots → offerNumber x < 2 ^ 64
-      go (Taken m n) h l s = omega (arith, h .0, h .1)
-      go (Forward m len) h l s = omega arith
-      go (Back m n len) h l s = omega (arith, h .0, h .1)
-      go (Refused n) h l s = omega (arith, offer-refusal-le h)
-      go (NoSlots i n) h l s = slots-number-fits i n (walk-number-le (h .0)) (omega (arith, h .1)) (eqb i 1)
-      go (NoRoom i len) h l s = omega (arith, walk-number-le (h .0))
-
-  abbrev TakenFits : Vetted → Type 0
-  TakenFits v =
-      isTaken (offered E b (slotCount (length work)) (length word) v .answer) ≡ true
-      → FitsBytes (offered E b (slotCount (length work)) (length word) v .entry)
-
-  not-taken : (n : ℕ) → TakenFits (turned n)
-  not-taken n e = let z : _≡_ {A = ℕ} 0 1 = cc in absurd (omega arith)
+      go : (x : OfferAnswer) → OfferListed (slotCount (length work)) (length word) x → slotCount (length work) ≤ maxSlots
+          → offerNumber x < 2 ^ 64
+      go (Taken m n) h s = omega (arith, h .0, h .1)
+      go (Forward m len) h s = omega (arith, h .0, h .1)
+      go (Back m n len) h s = omega (arith, h .0, h .1, h .2)
+      go (Refused n) h s = omega (arith, offer-refusal-le h)
+      go (NoSlots i n) h s = slots-number-fits i n (walk-number-le (h .0)) (omega (arith, h .1)) (eqb i 1)
+      go (NoRoom i len) h s = omega (arith, walk-number-le (h .0), h .2)
 
   -- the entry that taken leaves fits its bytes
   pub taken-fits : isTaken (offerOf E f b work word .answer) ≡ true → FitsBytes (offerOf E f b work word .entry)
-  unfolding offerOf offerChecks
   taken-fits =
-      by-test TakenFits (malformed E) (turned 9) _ (λ _. not-taken 9) λ e₁.
-      by-test TakenFits (not (E .filled)) (turned 13) _ (λ _. not-taken 13) λ e₂.
-      by-read TakenFits (readFile f) turned _ (λ n _. not-taken n) λ B r.
-      by-test TakenFits (ltb maxBound b) (turned 8) _ (λ _. not-taken 8) λ _.
-      by-test TakenFits (not (eqb (E .held .letters) (B .letters))) (turned 7) _ (λ _. not-taken 7) λ _.
-      by-test TakenFits (hasDead B) (turned 6) _ (λ _. not-taken 6) λ _.
-      by-test TakenFits (not (smaller B (E .held)) || eqb (E .edition) maxEdition) (turned 14) (passed B) (λ _. not-taken 14) λ _ e.
-      let w = well-formed-stable E (λ h. test-false (malformed E) (malformed-iff E) e₁ (not-false (E .filled) e₂, h)) in
-      rw e (next-edition-fits E B w (file-in-range f B r))
+      by-offer E f b work word (λ o. isTaken (o .answer) ≡ true → FitsBytes (o .entry))
+      (λ n e. let z : _≡_ {A = ℕ} 0 1 = cc in absurd (omega arith))
+      (λ B r i w back d k e. rw e (next-edition-fits E B i (file-in-range f B r)))
 
-  pub taken-result-fits : (R : OfferResult) → R ≡ offerOf E f b work word → isTaken (R .answer) ≡ true → FitsBytes (R .entry)
-  taken-result-fits R r = subst (λ (Q : OfferResult). isTaken (Q .answer) ≡ true → FitsBytes (Q .entry)) (sym r) taken-fits
+  pub taken-result-fits : (R : OfferResult) → R .answer ≡ offerOf E f b work word .answer → R .entry ≡ offerOf E f b work word .entry
+      → isTaken (R .answer) ≡ true → FitsBytes (R .entry)
+  taken-result-fits R d e h = subst FitsBytes (sym e) (taken-fits (ap isTaken (sym d) ∙ h))
 
 module _ (s f : List ℕ) (b : ℕ) (work word : List ℕ) where
   -- the promise of entry_offer
   abbrev pub Offered : ℕ → List ℕ → List ℕ → List ℕ → Type 0
   Offered n t work′ word′ =
       (n ≡ offerBytesNumber s f b work word) × ((t ≡ offerBytes s f b work word)
-      × ((work′ ≡ offerBytesWork s f b work) × (word′ ≡ offerBytesWord s f b work word)))
+      × ((work′ ≡ offerBytesWork s f b work word) × (word′ ≡ offerBytesWord s f b work word)))
 
   pub no-entry-offer : isEntry s ≡ false → Offered noEntry s work word
   unfolding offerBytesNumber offerBytes offerBytesWork offerBytesWord
@@ -285,25 +217,26 @@ module _ (s f : List ℕ) (b : ℕ) (work word : List ℕ) where
   entry-offer : isEntry s ≡ true
       → Offered (offerNumber (offerOf (entryOf s) f b work word .answer))
       (stored (isTaken (offerOf (entryOf s) f b work word .answer)) (offerOf (entryOf s) f b work word .entry) s)
-      (offerWork (entryOf s) f b work) (offerWord (entryOf s) f b work word)
+      (offerOf (entryOf s) f b work word .work) (offerOf (entryOf s) f b work word .word)
   unfolding offerBytesNumber offerBytes offerBytesWork offerBytesWord
   entry-offer e = (rw e refl, (rw e refl, (rw e refl, rw e refl)))
 
   -- what the calls below entry_offer promise makes its promise
   pub entry-offered : (E : Entry) (R : OfferResult) (o : Bool) (n : ℕ) (t work′ word′ : List ℕ) → isEntry s ≡ true → E ≡ entryOf s
-      → R ≡ offerOf E f b work word → work′ ≡ offerWork E f b work → word′ ≡ offerWord E f b work word
+      → R .answer ≡ offerOf E f b work word .answer → R .entry ≡ offerOf E f b work word .entry
+      → work′ ≡ offerOf E f b work word .work → word′ ≡ offerOf E f b work word .word
       → o ≡ isTaken (R .answer) → n ≡ offerNumber (R .answer) → t ≡ stored o (R .entry) s → Offered n t work′ word′
-  entry-offered E R o n t work′ word′ i e r ew ed eo en et =
-      let h : R ≡ offerOf (entryOf s) f b work word = r ∙ ap (λ (F : Entry). offerOf F f b work word) e in
+  entry-offered E R o n t work′ word′ i e ra re ew ed eo en et =
+      let h : offerOf E f b work word ≡ offerOf (entryOf s) f b work word = ap (λ (F : Entry). offerOf F f b work word) e in
       let d = entry-offer i in (
-        en ∙ ap (λ (Q : OfferResult). offerNumber (Q .answer)) h ∙ d .0,
+        en ∙ ap offerNumber ra ∙ ap (λ (Q : Offer). offerNumber (Q .answer)) h ∙ d .0,
         (
-          et ∙ ap (λ (c : Bool). stored c (R .entry) s) eo
-              ∙ ap (λ (Q : OfferResult). stored (isTaken (Q .answer)) (Q .entry) s) h
+          et ∙ ap₂ (λ (c : Bool) (F : Entry). stored c F s) (eo ∙ ap isTaken ra) re
+              ∙ ap (λ (Q : Offer). stored (isTaken (Q .answer)) (Q .entry) s) h
               ∙ d .1 .0,
           (
-            ew ∙ ap (λ (F : Entry). offerWork F f b work) e ∙ d .1 .1 .0,
-            ed ∙ ap (λ (F : Entry). offerWord F f b work word) e ∙ d .1 .1 .1,
+            ew ∙ ap (λ (Q : Offer). Q .work) h ∙ d .1 .1 .0,
+            ed ∙ ap (λ (Q : Offer). Q .word) h ∙ d .1 .1 .1,
           ),
         ),
       )

@@ -1,21 +1,21 @@
--- Open, offer and verdict on entries as bytes, 2,061 of them, laid out as crates/entry/specs/Bytes.antt says. A length other than 2,061
+-- Open, offer and verdict on entries as bytes, 2,061 of them, laid out as `Bytes` says. A length other than 2,061
 -- or another byte 0 than 0 and 1 is condition 9. A refusal changes no byte of the entry; opened and taken write all 2,061.
 --   openBytesNumber, openBytes       open's number, and the entry's bytes afterwards
 --   offerBytesNumber, offerBytes     offer's number, and the entry's bytes afterwards
 --   offerBytesWork, offerBytesWord   the work buffer and the word buffer after offer
 --   verdictBytesNumber               verdict's number
--- Assumes nothing.
+-- Shown by `entry-open-demand-1`, `entry-offer-demand-1` and `entry-verdict-demand-1`. Assumes nothing.
 use mathlib.Core.Bool.{Bool, true, false, cond}
 use mathlib.Core.List.{List}
 use Prim.Native.Nat.{ℕ}
-use Rattle.entry.specs.declared.Entry.{Entry}
-use Rattle.entry.specs.declared.OpenAnswer.{OpenAnswer}
-use Rattle.entry.specs.declared.OpenAnswer.the-variants.{Opened, Refused}
-use Rattle.entry.specs.Opens.{openOf}
-use Rattle.entry.specs.Offers.{isTaken, offerOf, offerWork, offerWord}
-use Rattle.entry.specs.Verdicts.{verdictOf}
-use Rattle.entry.specs.Bytes.{isEntry, entryOf, entryBytes}
-use Rattle.entry.specs.Numbers.{openNumber, offerNumber, verdictNumber}
+use Rattle.history.specs.declared.Entry.{Entry}
+use Rattle.history.specs.declared.OpenAnswer.{OpenAnswer}
+use Rattle.history.specs.declared.OpenAnswer.the-variants.{Opened, Refused}
+use Rattle.history.specs.Opens.{openOf}
+use Rattle.history.specs.Offers.{isTaken, offerOf}
+use Rattle.history.specs.Verdicts.{verdictOf}
+use Rattle.boundary.specs.Bytes.{isEntry, entryOf, entryBytes}
+use Rattle.boundary.specs.Numbers.{openNumber, offerNumber, verdictNumber}
 
 -- 100 plus 9
 abbrev pub noEntry : ℕ
@@ -43,11 +43,11 @@ module _ (s f : List ℕ) (b : ℕ) (work word : List ℕ) where
   offerBytes =
       cond (isEntry s) (stored (isTaken (offerOf (entryOf s) f b work word .answer)) (offerOf (entryOf s) f b work word .entry) s) s
 
-  unfoldable pub offerBytesWord : List ℕ
-  offerBytesWord = cond (isEntry s) (offerWord (entryOf s) f b work word) word
+  unfoldable pub offerBytesWork : List ℕ
+  offerBytesWork = cond (isEntry s) (offerOf (entryOf s) f b work word .work) work
 
-unfoldable pub offerBytesWork : List ℕ → List ℕ → ℕ → List ℕ → List ℕ
-offerBytesWork s f b work = cond (isEntry s) (offerWork (entryOf s) f b work) work
+  unfoldable pub offerBytesWord : List ℕ
+  offerBytesWord = cond (isEntry s) (offerOf (entryOf s) f b work word .word) word
 
 unfoldable pub verdictBytesNumber : List ℕ → List ℕ → List ℕ → ℕ
 verdictBytesNumber s u v = cond (isEntry s) (verdictNumber (verdictOf (entryOf s) u v)) noEntry

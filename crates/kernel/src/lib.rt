@@ -1,17 +1,16 @@
 // The functions that vendors link: thin, each over the crate that does the work.
-use entry::Entry;
-use entry::OfferAnswer;
-use entry::OpenAnswer;
-use entry::VerdictAnswer;
+use answers::Comparison;
+use answers::Outcome;
+use history::Entry;
+use history::OpenAnswer;
 ghost use mathlib.Core.Path.{_≡_};
 ghost use mathlib.Core.Bool.{true};
-ghost use Prim.Native.Nat.{_<_, _^_};
 ghost use lib.ListN.{length};
-ghost use Rattle.contain.specs.Contain.{outcomeOf, workOf, wordBuffer, outcomeNumber};
-ghost use Rattle.contain.specs.Demand2.{Demand2};
-ghost use Rattle.entry.specs.declared.OfferAnswer.the-variants.{NoSlots};
-ghost use Rattle.entry.specs.Bytes.{entryLength, FitsBytes};
-ghost use Rattle.entry.specs.Numbers.{openNumber, packedOffer, offerNumber, verdictNumber};
+ghost use denote.Ref.{ptr};
+ghost use Rattle.answers.specs.Contain.{outcomeOf, workOf, wordBuffer, partLength, wordPart};
+ghost use Rattle.answers.specs.Demand2.{Demand2};
+ghost use Rattle.boundary.specs.Bytes.{entryLength, FitsBytes};
+ghost use Rattle.boundary.specs.Numbers.{outcomeNumber};
 ghost use Rattle.kernel.specs.EntryCalls.{
   isOpened,
   stored,
@@ -23,9 +22,15 @@ ghost use Rattle.kernel.specs.EntryCalls.{
   offerBytesWord,
   verdictBytesNumber,
 };
+ghost use Rattle.kernel.specs.BytesDemand1.{
+  ContainCallDemand1,
+  EntryOpenDemand1,
+  EntryOfferDemand1,
+  EntryVerdictDemand1,
+};
 
-// Whether the first file's automaton is contained in the second's at the bound, as one number: kind + 256 times count +
-// 16,777,216 times word length. The walk's slots stand in work; the word of "differs" stands in front in word.
+// Whether the first file's automaton is contained in the second's at the bound, as one number: kind + 2^8 count + 2^24 word
+// length. The walk's slots stand in work; the word of "differs" stands in front in word.
 #[no_mangle]
 pub extern "C" fn contain(
     first: &[u8],
@@ -38,40 +43,62 @@ pub extern "C" fn contain(
         r ≡ outcomeNumber (outcomeOf (now (first .entry)) (now (second .entry)) bound (now (work .entry)) (now (word .entry)))
         ⌝ }
     ensures work { λ r. ⌜
-        now (work .exit) ≡ workOf (now (first .entry)) (now (second .entry)) bound (now (work .entry))
+        now (work .exit) ≡ workOf (now (first .entry)) (now (second .entry)) bound (now (work .entry)) (now (word .entry))
         ⌝ }
     ensures word { λ r. ⌜
         now (word .exit) ≡ wordBuffer (now (first .entry)) (now (second .entry)) bound (now (work .entry)) (now (word .entry))
+        ⌝ }
+    ensures demand1 { λ r. ⌜
+        ContainCallDemand1 (now (first .entry)) (now (second .entry)) bound (now (work .entry)) (now (word .entry))
         ⌝ }
     ensures demand2 { λ r. ⌜
         Demand2 (now (first .entry)) (now (second .entry)) bound (now (work .entry)) (now (word .entry))
         ⌝ }
 {
-    contain::outcome_number(contain::contain(first, second, bound, work, word))
+    boundary::numbers::outcome_number(contain::contain(first, second, bound, work, word))
 }
 
-// The number of what verdict answers.
-fn verdict_number(answer: VerdictAnswer) -> u64
-    requires { ⌜ verdictNumber answer < 2 ^ 64 ⌝ }
-    ensures { λ r. ⌜ r ≡ verdictNumber answer ⌝ }
+// The length of the word that an outcome comes with: 0 where there is no word.
+fn part_length(outcome: Outcome) -> usize
+    ensures { λ r. ⌜ r ≡ partLength outcome ⌝ }
 {
-    match answer {
-        VerdictAnswer::Yes => 1,
-        VerdictAnswer::No => 0,
-        VerdictAnswer::Refused(number) => 100 + (number as u64),
+    match outcome {
+        Outcome::Refused(_, _) => 0,
+        Outcome::Compared(comparison) => match comparison {
+            Comparison::Contained(_) => 0,
+            Comparison::Differs(_, len) => len,
+            Comparison::NoSlots(_) => 0,
+            Comparison::NoRoom(_) => 0,
+        },
     }
 }
 
-// Whether the automaton of the entry in these bytes accepts the lasso word of the stem and the loop `turn`, as one number: 0 no,
-// 1 yes, 100 plus a refusal's number.
-#[no_mangle]
-pub extern "C" fn entry_verdict(entry: &[u8], stem: &[u8], turn: &[u8]) -> u64
-    ensures { λ r. ⌜ r ≡ verdictBytesNumber (now (entry .entry)) (now (stem .entry)) (now (turn .entry)) ⌝ }
+// The word that contain comes with, as the front of the buffer that was lent for it, which is not copied; without a word the part
+// is empty. The outcome's number is written to `number`.
+pub fn contain_part<'a>(
+    first: &[u8],
+    second: &[u8],
+    bound: u64,
+    work: &mut [u8],
+    word: &'a mut [u8],
+    number: &mut u64,
+) -> &'a mut [u8]
+    ensures part { λ r. ⌜
+        now r ≡ wordPart (now (first .entry)) (now (second .entry)) bound (now (work .entry)) (now (word .entry))
+        ⌝ }
+    ensures place { λ r. ⌜ ptr r ≡ ptr (word .entry) ⌝ }
+    ensures work { λ r. ⌜
+        now (work .exit) ≡ workOf (now (first .entry)) (now (second .entry)) bound (now (work .entry)) (now (word .entry))
+        ⌝ }
+    ensures number { λ r. ⌜
+        now (number .exit)
+        ≡ outcomeNumber (outcomeOf (now (first .entry)) (now (second .entry)) bound (now (work .entry)) (now (word .entry)))
+        ⌝ }
 {
-    if !entry::bytes::is_entry(entry) {
-        return 109;
-    }
-    verdict_number(entry::verdict(entry::bytes::decode(entry), stem, turn))
+    let outcome = contain::contain(first, second, bound, work, word);
+    *number = boundary::numbers::outcome_number(outcome);
+    let n = part_length(outcome);
+    &mut word[..n]
 }
 
 // Writes the entry's bytes where it is to be written.
@@ -80,7 +107,7 @@ fn store(written: bool, entry: Entry, bytes: &mut [u8])
     ensures { λ _. ⌜ now (bytes .exit) ≡ stored written entry (now (bytes .entry)) ⌝ }
 {
     if written {
-        entry::bytes::encode(entry, bytes);
+        boundary::bytes::encode(entry, bytes);
     }
 }
 
@@ -94,69 +121,20 @@ fn is_opened(answer: OpenAnswer) -> bool
     }
 }
 
-// The number of what open answers.
-fn open_number(answer: OpenAnswer) -> u64
-    requires { ⌜ openNumber answer < 2 ^ 64 ⌝ }
-    ensures { λ r. ⌜ r ≡ openNumber answer ⌝ }
-{
-    match answer {
-        OpenAnswer::Opened => 0,
-        OpenAnswer::Refused(number) => 100 + (number as u64),
-    }
-}
-
 // Opens the empty entry in these bytes with the file's automaton, as one number: 0 opened, 100 plus a refusal's number.
 #[no_mangle]
 pub extern "C" fn entry_open(entry: &mut [u8], file: &[u8]) -> u64
     ensures number { λ r. ⌜ r ≡ openBytesNumber (now (entry .entry)) (now (file .entry)) ⌝ }
     ensures bytes { λ r. ⌜ now (entry .exit) ≡ openBytes (now (entry .entry)) (now (file .entry)) ⌝ }
+    ensures demand1 { λ r. ⌜ EntryOpenDemand1 (now (entry .entry)) (now (file .entry)) ⌝ }
 {
-    if !entry::bytes::is_entry(entry) {
+    if !boundary::bytes::is_entry(entry) {
         return 109;
     }
-    let opened = entry::open_entry(entry::bytes::decode(entry), file);
+    let opened = entry::open_entry(boundary::bytes::decode(entry), file);
     let answer = opened.answer;
     store(is_opened(answer), opened.entry, entry);
-    open_number(answer)
-}
-
-// Kind, the two counts, word length and walk in one number.
-fn packed_offer(kind: usize, forward: usize, back: usize, len: usize, walk: usize) -> u64
-    requires { ⌜ packedOffer kind forward back len walk < 2 ^ 64 ⌝ }
-    ensures { λ r. ⌜ r ≡ packedOffer kind forward back len walk ⌝ }
-{
-    (kind as u64)
-        + 256 * (forward as u64)
-        + 16777216 * (back as u64)
-        + 1099511627776 * (len as u64)
-        + 72057594037927936 * (walk as u64)
-}
-
-// The number of refusal 10 of a walk.
-fn no_slots_number(walk: usize, slots: usize) -> u64
-    requires { ⌜ offerNumber (NoSlots walk slots) < 2 ^ 64 ⌝ }
-    ensures { λ r. ⌜ r ≡ offerNumber (NoSlots walk slots) ⌝ }
-{
-    if walk == 1 {
-        packed_offer(110, slots, 0, 0, walk)
-    } else {
-        packed_offer(110, 0, slots, 0, walk)
-    }
-}
-
-// The number of what offer answers.
-fn offer_number(answer: OfferAnswer) -> u64
-    requires { ⌜ offerNumber answer < 2 ^ 64 ⌝ }
-    ensures { λ r. ⌜ r ≡ offerNumber answer ⌝ }
-{
-    match answer {
-        OfferAnswer::Taken(forward, back) => packed_offer(0, forward, back, 0, 0),
-        OfferAnswer::Forward(forward, len) => packed_offer(1, forward, 0, len, 0),
-        OfferAnswer::Back(forward, back, len) => packed_offer(2, forward, back, len, 0),
-        OfferAnswer::Refused(number) => packed_offer(100 + number, 0, 0, 0, 0),
-        OfferAnswer::NoSlots(walk, slots) => no_slots_number(walk, slots),
-        OfferAnswer::NoRoom(walk, len) => packed_offer(111, 0, 0, len, walk),
-    }
+    boundary::numbers::open_number(answer)
 }
 
 // Offers the file's automaton as the next edition of the entry in these bytes, as one number: kind + 2^8 forward count + 2^24 back
@@ -176,17 +154,33 @@ pub extern "C" fn entry_offer(
         now (entry .exit) ≡ offerBytes (now (entry .entry)) (now (file .entry)) bound (now (work .entry)) (now (word .entry))
         ⌝ }
     ensures work { λ r. ⌜
-        now (work .exit) ≡ offerBytesWork (now (entry .entry)) (now (file .entry)) bound (now (work .entry))
+        now (work .exit) ≡ offerBytesWork (now (entry .entry)) (now (file .entry)) bound (now (work .entry)) (now (word .entry))
         ⌝ }
     ensures word { λ r. ⌜
         now (word .exit) ≡ offerBytesWord (now (entry .entry)) (now (file .entry)) bound (now (work .entry)) (now (word .entry))
         ⌝ }
+    ensures demand1 { λ r. ⌜
+        EntryOfferDemand1 (now (entry .entry)) (now (file .entry)) bound (now (work .entry)) (now (word .entry))
+        ⌝ }
 {
-    if !entry::bytes::is_entry(entry) {
+    if !boundary::bytes::is_entry(entry) {
         return 109;
     }
-    let offered = entry::offer_entry(entry::bytes::decode(entry), file, bound, work, word);
+    let offered = entry::offer_entry(boundary::bytes::decode(entry), file, bound, work, word);
     let answer = offered.answer;
     store(entry::is_taken(answer), offered.entry, entry);
-    offer_number(answer)
+    boundary::numbers::offer_number(answer)
+}
+
+// Whether the automaton of the entry in these bytes accepts the lasso word of the stem and the loop `cycle`, as one number: 0 no,
+// 1 yes, 100 plus a refusal's number.
+#[no_mangle]
+pub extern "C" fn entry_verdict(entry: &[u8], stem: &[u8], cycle: &[u8]) -> u64
+    ensures number { λ r. ⌜ r ≡ verdictBytesNumber (now (entry .entry)) (now (stem .entry)) (now (cycle .entry)) ⌝ }
+    ensures demand1 { λ r. ⌜ EntryVerdictDemand1 (now (entry .entry)) (now (stem .entry)) (now (cycle .entry)) ⌝ }
+{
+    if !boundary::bytes::is_entry(entry) {
+        return 109;
+    }
+    boundary::numbers::verdict_number(entry::verdict(boundary::bytes::decode(entry), stem, cycle))
 }

@@ -2,8 +2,8 @@
 ghost use Prim.Native.Nat.{_≤_};
 ghost use lib.ListN.{length};
 use automaton::Automaton;
-use entry::Entry;
-use entry::OfferAnswer;
+use history::Entry;
+use history::OfferAnswer;
 use libc::STDOUT_FILENO;
 
 // An entry with an edition number, held states and first states.

@@ -1,4 +1,4 @@
-// Opens the file first.ba and offers the file offer.ba, with the bound as the one byte of standard input, and prints the answer's line.
+// Opens the file first.ba, offers the file offer.ba to it at the bound that standard input gives as one byte, and prints the line.
 ghost use Rattle.io.specs.Counts.{Counts};
 use libc::STDIN_FILENO;
 use libc::STDOUT_FILENO;

@@ -6,8 +6,8 @@ use Prim.Native.Nat.{ℕ, _+_, _-_, _≤_, _<_}
 use native.Mathlib.Omega.{arith}
 use lib.ListN.{length, getD}
 use borrow.Author.Tests.{le-leb, lt-leb, ne-eqb}
-use Rattle.records.specs.declared.Record.the-variants.{Fault}
-use Rattle.records.specs.Records.{acceptingRecord, transitionRecord, endRecord, recordIn}
+use Rattle.format.specs.declared.Record.the-variants.{Fault}
+use Rattle.format.specs.Records.{acceptingRecord, transitionRecord, endRecord, recordIn}
 
 module _ (s : List ℕ) (i : ℕ) where
   pub record-short : length s - i < 2 → recordIn s i ≡ Fault 1

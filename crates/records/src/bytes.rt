@@ -2,8 +2,8 @@
 ghost use mathlib.Core.Path.{_≡_};
 ghost use Prim.Native.Nat.{_-_, _+_, _≤_};
 ghost use lib.ListN.{length};
-ghost use Rattle.records.specs.Records.{acceptingRecord, transitionRecord, endRecord, recordIn};
-use crate::Record;
+ghost use Rattle.format.specs.Records.{acceptingRecord, transitionRecord, endRecord, recordIn};
+use format::Record;
 use automaton::wide;
 
 // The number of bytes from a position on.

@@ -1,24 +1,10 @@
 // The records past the header of an automaton file, as far as their bytes go, and the reader that goes from one to the next.
 ghost use mathlib.Core.Path.{_≡_};
-ghost use Rattle.records.specs.Records.{recordIn};
+ghost use Rattle.format.specs.Records.{recordIn};
 
 mod bytes;
 
-// A record past the header, as far as its bytes go: refusal 1 or 2; or its fields, and the position after it.
-pub enum Record {
-    Fault(usize),
-    Accepting {
-        state: usize,
-        next: usize,
-    },
-    Transition {
-        from: usize,
-        letter: usize,
-        to: usize,
-        next: usize,
-    },
-    End,
-}
+use format::Record;
 
 // A file, and the position in it where the next record stands.
 pub struct Reader<'a> {

@@ -5,8 +5,8 @@ use mathlib.Core.Bool.{true}
 use mathlib.Core.List.{[], _∷_}
 use Prim.Native.Nat.{ℕ}
 use Rattle.automaton.specs.Automata.{bare}
-use Rattle.entry.specs.declared.Entry.{Entry}
-use Rattle.entry.specs.declared.OfferAnswer.the-variants.{Taken, Back}
+use Rattle.history.specs.declared.Entry.{Entry}
+use Rattle.history.specs.declared.OfferAnswer.the-variants.{Taken, Back}
 use Rattle.report.specs.Line.{digits, decimal, percentSaved, fields, letters, offerLine}
 
 -- halves go up

@@ -5,9 +5,9 @@ use Prim.Native.Nat.{ℕ, zero, suc, _+_, _-_, _*_, _^_, _≤_, _<_}
 use native.Mathlib.Nat.{div-zero, div-lt-iff-lt-mul}
 use native.Mathlib.Omega.{arith}
 use lib.ListN.{length, length-append}
-use Rattle.entry.specs.declared.Entry.{Entry}
-use Rattle.entry.specs.declared.OfferAnswer.{OfferAnswer}
-use Rattle.entry.specs.declared.OfferAnswer.the-variants.{Taken, Forward, Back, Refused, NoSlots, NoRoom}
+use Rattle.history.specs.declared.Entry.{Entry}
+use Rattle.history.specs.declared.OfferAnswer.{OfferAnswer}
+use Rattle.history.specs.declared.OfferAnswer.the-variants.{Taken, Forward, Back, Refused, NoSlots, NoRoom}
 use Rattle.report.specs.Line.{decimal, percentSaved, fields, letters, refusedLine, offerLine, lineRoom}
 use Rattle.report.proofs.Decimals.{decimal-length}
 

@@ -7,9 +7,9 @@ use native.Mathlib.Nat.{zero-add}
 use native.Mathlib.Omega.{arith}
 use lib.Dec.{leb}
 use lib.ListN.{length, drop}
-use Rattle.entry.specs.declared.Entry.{Entry}
-use Rattle.entry.specs.declared.OfferAnswer.{OfferAnswer}
-use Rattle.report.specs.declared.answers.Shown.{Shown}
+use Rattle.history.specs.declared.Entry.{Entry}
+use Rattle.history.specs.declared.OfferAnswer.{OfferAnswer}
+use Rattle.report.specs.declared.answer_lines.Shown.{Shown}
 use Rattle.report.specs.Shown.{Shows}
 use Rattle.report.specs.Buffers.{Written}
 use Rattle.report.specs.Line.{decimal, percentSaved, space, statesText, ofText, savedText, walksText, fields}

@@ -8,14 +8,14 @@ use borrow.Author.Tests.{le-leb, lt-ltb, le-ltb, eq-eqb, ne-eqb}
 use lib.Dec.{leb}
 use lib.ListN.{length, drop, take, getD, replicate, length-replicate}
 use lib.Seq.{length-take-le}
-use Rattle.entry.proofs.OfferParts.{offer-part-le}
-use Rattle.entry.specs.declared.Entry.{Entry}
-use Rattle.entry.specs.declared.OfferResult.{OfferResult}
-use Rattle.entry.specs.declared.OpenResult.{OpenResult}
-use Rattle.entry.specs.declared.OpenAnswer.{OpenAnswer}
-use Rattle.entry.specs.declared.OpenAnswer.the-variants.{Opened, Refused}
-use Rattle.entry.specs.Opens.{openOf}
-use Rattle.entry.specs.Offers.{offerOf, offerWord, offerPart, partLength}
+use Rattle.history.proofs.OfferBuffers.{offer-part-le}
+use Rattle.history.specs.declared.Entry.{Entry}
+use Rattle.history.specs.declared.OfferAnswer.{OfferAnswer}
+use Rattle.history.specs.declared.OpenResult.{OpenResult}
+use Rattle.history.specs.declared.OpenAnswer.{OpenAnswer}
+use Rattle.history.specs.declared.OpenAnswer.the-variants.{Opened, Refused}
+use Rattle.history.specs.Opens.{openOf}
+use Rattle.history.specs.Offers.{Offer, offerOf, offerPart, partLength}
 use Rattle.report.specs.Line.{newline, usageText, longText, refusedLine, offerLine, lineAfter, lineLength, lineRoom, Lined}
 use Rattle.report.specs.Listing.{maxFile, workBytes, wordBytes, freshEntry, offerListing, openListing, listing}
 
@@ -55,38 +55,31 @@ module _ (input first offer : List ℕ) where
   listing-calls h f l =
       rw (eq-eqb (length input) 1 h) (rw (le-ltb maxFile (length first) f) (rw (le-ltb maxFile (length offer) l)))
 
--- the line of an offer's result and of the front of the word buffer that it leaves
-pub listing-offered : (E : Entry) (offer : List ℕ) (b : ℕ) (r : OfferResult) (word : List ℕ) (n : ℕ)
-    → r ≡ offerOf E offer b (replicate workBytes 0) (replicate wordBytes 0)
-    → word ≡ offerWord E offer b (replicate workBytes 0) (replicate wordBytes 0)
-    → n ≡ partLength (r .answer)
-    → offerLine (r .entry) (r .answer) (take n word) ≡ offerListing E offer b
+-- the offer of the listing, with buffers of zeros
+abbrev listed : Entry → List ℕ → ℕ → Offer
+listed E offer b = offerOf E offer b (replicate workBytes 0) (replicate wordBytes 0)
+
+-- the line of an offer's answer and entry, and of the front of the word buffer that it leaves
+pub listing-offered : (E : Entry) (offer : List ℕ) (b : ℕ) (x : OfferAnswer) (F : Entry) (word part : List ℕ) → x ≡ listed E offer b .answer
+    → F ≡ listed E offer b .entry → word ≡ listed E offer b .word → part ≡ take (partLength x) word
+    → offerLine F x part ≡ offerListing E offer b
 unfolding offerListing offerPart
-listing-offered E offer b r word n is left part =
-    ap₂ (λ (k : ℕ) (w : List ℕ). offerLine (r .entry) (r .answer) (take k w)) part left
-    ∙ ap (λ (x : OfferResult).
-    offerLine (x .entry) (x .answer) (take (partLength (x .answer)) (offerWord E offer b (replicate workBytes 0) (replicate wordBytes 0)))) is
+listing-offered E offer b x F word part d e w p =
+    ap (offerLine F x) (p ∙ ap₂ (λ (y : OfferAnswer) (l : List ℕ). take (partLength y) l) d w)
+    ∙ ap₂ (λ (y : OfferAnswer) (G : Entry). offerLine G y (take (partLength (listed E offer b .answer)) (listed E offer b .word))) d e
 
 -- the written part of the word buffer stands in it
-part-le : (E : Entry) (offer : List ℕ) (b : ℕ) (r : OfferResult) {n : ℕ}
-    → r ≡ offerOf E offer b (replicate workBytes 0) (replicate wordBytes 0) → n ≡ partLength (r .answer) → n ≤ wordBytes
-part-le E offer b r {n} is part =
-    let whole = offer-part-le E offer b (replicate workBytes 0) (replicate wordBytes 0) in
-    subst (λ (k : ℕ). k ≤ wordBytes) (sym (part ∙ ap (λ (x : OfferResult). partLength (x .answer)) is))
-    (subst (λ (k : ℕ). partLength (offerOf E offer b (replicate workBytes 0) (replicate wordBytes 0) .answer) ≤ k)
-    (length-replicate {A = ℕ} wordBytes 0) whole)
-
-pub part-fits : (E : Entry) (offer : List ℕ) (b : ℕ) (r : OfferResult) {n : ℕ} (word : List ℕ)
-    → r ≡ offerOf E offer b (replicate workBytes 0) (replicate wordBytes 0) → n ≡ partLength (r .answer)
-    → length word ≡ wordBytes → n ≤ length word
-part-fits E offer b r {n} word is part long = subst (λ (k : ℕ). n ≤ k) (sym long) (part-le E offer b r is part)
+pub part-le : (E : Entry) (offer : List ℕ) (b : ℕ) (x : OfferAnswer) → x ≡ listed E offer b .answer → partLength x ≤ wordBytes
+part-le E offer b x d =
+    subst (λ (y : OfferAnswer). partLength y ≤ wordBytes) (sym d)
+    (subst (λ (k : ℕ). partLength (listed E offer b .answer) ≤ k) (length-replicate {A = ℕ} wordBytes 0)
+    (offer-part-le E offer b (replicate workBytes 0) (replicate wordBytes 0)))
 
 -- the room that is asked for its line
-pub part-room : (E : Entry) (offer : List ℕ) (b : ℕ) (r : OfferResult) {n : ℕ} (word : List ℕ)
-    → r ≡ offerOf E offer b (replicate workBytes 0) (replicate wordBytes 0) → n ≡ partLength (r .answer)
-    → n ≤ length word → lineRoom (take n word) ≤ 256 + 4 * wordBytes
-part-room E offer b r {n} word is part fits =
-    omega (arith, part-le E offer b r is part, length-take-le n word fits)
+pub part-room : (E : Entry) (offer : List ℕ) (b : ℕ) (x : OfferAnswer) (word part : List ℕ) → x ≡ listed E offer b .answer
+    → length word ≡ wordBytes → part ≡ take (partLength x) word → lineRoom part ≤ 256 + 4 * wordBytes
+part-room E offer b x word part d long p =
+    let h = part-le E offer b x d in omega (arith, h, ap length p, length-take-le (partLength x) word (omega (arith, h, long)))
 
 -- the line of what open gives to a fresh entry
 module _ (first offer : List ℕ) (b : ℕ) (E : Entry) (r : OpenResult) (empty : E ≡ freshEntry) (is : r ≡ openOf E first) where

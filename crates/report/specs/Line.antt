@@ -1,6 +1,6 @@
--- The line of an offer (01, "Listing"): "Fields: outcome, edition, held states, first states, percent of states saved (halves go up),
--- forward and back count (`-` if not walked), word letters in decimal after single spaces. After an empty word the line ends at
--- `word`. A refusal of either call prints `refused`, a space and its number .. Each line ends in byte 0A."
+-- The line of an offer (01, "Listing"): the outcome's name, the edition number, the states held and those of the first edition, how many
+-- percent fewer that is, rounded with halves up, the counts of both walks, `-` for a walk that was not made, and for forward and back the
+-- word, a space before each letter. A refusal's line has its number alone. Byte 0A ends every line.
 --   decimal n              the digits of n, highest first
 --   percentSaved           of so many first states, so many are held: the percent saved, halves up
 --   offerLine E x w        the line of the answer x, with the entry E after the call and the letters w of the word
@@ -18,9 +18,9 @@ use Prim.Native.Nat.{ℕ, zero, suc, _+_, _-_, _*_, _/_, _%_, _≤_}
 use lib.Dec.{leb, ltb}
 use lib.ListN.{length, drop}
 use Rattle.automaton.specs.declared.Automaton.{Automaton}
-use Rattle.entry.specs.declared.Entry.{Entry}
-use Rattle.entry.specs.declared.OfferAnswer.{OfferAnswer}
-use Rattle.entry.specs.declared.OfferAnswer.the-variants.{Taken, Forward, Back, Refused, NoSlots, NoRoom}
+use Rattle.history.specs.declared.Entry.{Entry}
+use Rattle.history.specs.declared.OfferAnswer.{OfferAnswer}
+use Rattle.history.specs.declared.OfferAnswer.the-variants.{Taken, Forward, Back, Refused, NoSlots, NoRoom}
 
 -- at most k digits
 unfoldable pub digits : ℕ → ℕ → List ℕ

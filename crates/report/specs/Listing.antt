@@ -1,21 +1,21 @@
--- What the program `listing` prints (01, "Listing"): "Program `listing` opens file `first.ba`, offers `offer.ba`, with the bound as the one
--- byte of standard input, 65,520 work bytes and 2,048 word bytes .. A refusal of either call prints `refused`, a space and its
--- number; input of another length than one byte prints `usage`, tested first; then a file above 65,536 bytes prints `long`."
+-- What the program `listing` prints (01, "Listing"): its input is one byte, else the line is `usage`; no file is longer than 65,536 bytes, else
+-- it is `long`; then the first file is opened in a fresh entry and the other one offered with that byte as the bound, 65,520 bytes of
+-- work and 2,048 of word, and the line is that of the offer, or of the refusal that came up.
 --   listing input first offer   the line, of the bytes of standard input and of the two files
--- Assumes nothing.
+-- Shown by the contract of `listing_line`. Assumes nothing.
 use mathlib.Core.Bool.{Bool, true, false, cond, _||_, not}
 use mathlib.Core.List.{List, [], _∷_, _++_}
 use Prim.Native.Nat.{ℕ}
 use lib.Dec.{eqb, ltb}
 use lib.ListN.{length, getD, replicate}
 use Rattle.automaton.specs.Automata.{bare}
-use Rattle.entry.specs.declared.Entry.{Entry}
-use Rattle.entry.specs.declared.OpenResult.{OpenResult}
-use Rattle.entry.specs.declared.OpenAnswer.{OpenAnswer}
-use Rattle.entry.specs.declared.OpenAnswer.the-variants.{Opened, Refused}
-use Rattle.entry.specs.declared.OfferResult.{OfferResult}
-use Rattle.entry.specs.Opens.{openOf}
-use Rattle.entry.specs.Offers.{offerOf, offerPart}
+use Rattle.history.specs.declared.Entry.{Entry}
+use Rattle.history.specs.declared.OpenResult.{OpenResult}
+use Rattle.history.specs.declared.OpenAnswer.{OpenAnswer}
+use Rattle.history.specs.declared.OpenAnswer.the-variants.{Opened, Refused}
+use Rattle.history.specs.declared.OfferResult.{OfferResult}
+use Rattle.history.specs.Opens.{openOf}
+use Rattle.history.specs.Offers.{offerOf, offerPart}
 use Rattle.report.specs.Line.{newline, usageText, longText, refusedLine, offerLine}
 
 abbrev pub maxFile : ℕ
@@ -27,7 +27,7 @@ workBytes = 65520
 abbrev pub wordBytes : ℕ
 wordBytes = 2048
 
--- "A fresh entry is empty"
+-- an empty entry, all of whose numbers are 0
 unfoldable pub freshEntry : Entry
 freshEntry = record { filled = false; edition = 0; first = 0; held = bare 0 0 0 }
 

@@ -2,8 +2,8 @@
 --   Shows E s   s has the edition number, the held states and the first states of the entry E
 -- Assumes nothing.
 use mathlib.Core.Path.{_≡_}
-use Rattle.entry.specs.declared.Entry.{Entry}
-use Rattle.report.specs.declared.answers.Shown.{Shown}
+use Rattle.history.specs.declared.Entry.{Entry}
+use Rattle.report.specs.declared.answer_lines.Shown.{Shown}
 
 pub record Shows (E : Entry) (s : Shown) : Type 0 where
   pub edition : E .edition ≡ s .edition

@@ -5,16 +5,16 @@ ghost use Prim.Native.Nat.{_+_, _*_};
 ghost use lib.Dec.{leb};
 ghost use Rattle.report.specs.Line.{newline, usageText, longText, offerLine, refusedLine, lineRoom, Lined};
 
-mod answers;
+mod answer_lines;
 mod listings;
 mod parts;
 mod saved;
 
-use answers::Shown;
-use answers::put_answer;
-use answers::put_refused;
-use entry::Entry;
-use entry::OfferAnswer;
+use answer_lines::Shown;
+use answer_lines::put_answer;
+use answer_lines::put_refused;
+use history::Entry;
+use history::OfferAnswer;
 pub use listings::MAX_FILE;
 pub use listings::ROOM;
 pub use listings::fresh;

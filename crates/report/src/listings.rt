@@ -4,13 +4,13 @@ ghost use Prim.Native.Nat.{_+_, _*_, _≤_};
 ghost use lib.ListN.{length};
 ghost use Rattle.report.specs.Line.{Lined};
 ghost use Rattle.report.specs.Listing.{wordBytes, freshEntry, offerListing, openListing, listing};
-ghost use Rattle.entry.specs.Opens.{openOf};
+ghost use Rattle.history.specs.Opens.{openOf};
 use crate::long_line;
 use crate::offer_line;
 use crate::refused_line;
 use crate::usage_line;
-use entry::Entry;
-use entry::OpenAnswer;
+use history::Entry;
+use history::OpenAnswer;
 
 // The longest file that is read.
 pub const MAX_FILE: usize = 65536;
@@ -41,8 +41,8 @@ fn offer_listing(entry: Entry, offer: &[u8], bound: u64, line: &mut [u8]) -> usi
     let mut word = [0u8; 2048];
     let result = entry::offer_entry(entry, offer, bound, &mut work, &mut word);
     let answer = result.answer;
-    let n = entry::part_length(answer);
-    offer_line(result.entry, answer, &word[..n], line)
+    let part = entry::offer_part(answer, &mut word);
+    offer_line(result.entry, answer, part, line)
 }
 
 // Writes the line of the calls: open the first file, and offer the other one where it is opened.

@@ -6,8 +6,9 @@ pub mod Positions
 pub mod LagNumber
 pub mod FollowedBy
 pub mod Contained
+pub mod Simulation
 pub mod LassoRuns
 pub mod Pigeonhole
 pub mod VisitCounts
 pub mod Chains
-pub mod Carries
+pub mod KeepsLassos

@@ -1,10 +1,9 @@
--- Containment at a bound (01, "Entry, open, offer"; the paper, section 3.2): "Containment of a first automaton in a second at
--- bound b: every finite run prefix of the first has a run prefix of the second on the same word, with lag (in this order) at
--- most b."
---   Follows A B b w π   B has a run prefix on w whose lag behind π is at most b
---   Contained A B b     every run prefix of A has one of B on the same word with lag at most b
---   Shows A B b w       w is "a word that shows it": some run prefix of A on w has none of B on w with lag at most b
--- Assumes nothing.
+-- Containment at a bound (01, "Entry, open, offer"; the paper, section 3.2): whatever run prefix the first automaton has, the second has one on
+-- that word which falls behind by b visits at most.
+--   Follows A B b w π   B has a run prefix on w, and the lag of π and that prefix, in this order, is at most b
+--   Contained A B b     B follows every run prefix of A so, on the prefix's own word
+--   Shows A B b w       the word w shows that containment fails: B does not follow some run prefix of A on it
+-- Shown by `walk-decides-containment` of the crate walk, and what it is good for by `containment-keeps-lassos`. Assumes nothing.
 use mathlib.Core.List.{List}
 use Prim.Native.Nat.{ℕ, _≤_}
 use Rattle.automaton.specs.declared.Automaton.{Automaton}

@@ -1,13 +1,13 @@
--- Lag, 01's term (01, "The walk"): "Lag of two run prefixes of equal length: the largest j for which there are j ascending
--- positions where the first run is accepting, with the second run not accepting anywhere from the first to the last of them,
--- both included; 0 if there are none."
+-- Lag, 01's term (01, "The walk"): how many visits of accepting states the first of two equally long run prefixes can make while the second
+-- makes none. The visits are counted at positions in ascending order, and from the first of these to the last, at both of them too, the
+-- second is at no accepting state; the lag is the largest such count.
 --   Ascending xs          each position of xs is below the later ones
 --   Lagging A B π ρ xs    xs are such positions of the run prefixes π of A and ρ of B
 --   Lags A B π ρ j        there are j such positions
 --   Largest P n           n is the largest number that P holds of
 --   LagIs A B π ρ n       the lag of π and ρ, in this order, is n
--- No position at all is a list of 0 positions, so where there are no others the largest j is 0.
--- Assumes nothing.
+-- The empty list is such a list of positions, so without any visit the lag is 0.
+-- Shown by `lag-exists` and `lag-unique`: there is exactly one lag. Assumes nothing.
 use mathlib.Core.Path.{_≡_}
 use mathlib.Core.Bool.{not}
 use mathlib.Core.List.{List, [], _∷_, List·Memᴰ}

@@ -1,11 +1,10 @@
--- Lasso words and their acceptance (01, "Verdict"): "A lasso word is a stem u and a loop v, meaning u then v without end. It is
--- accepted if for some i of at least 0, j of at least 1 and state q, a run on u followed by i copies of v goes from the initial
--- state to q, and a run on j copies of v from q back to q meets an accepting state. The definition itself has no upper length
--- limits, and its loop is never empty."
+-- Lasso words and their acceptance (01, "Verdict"): the stem u, and after it the loop v again and again. The word is accepted where the stem and
+-- some copies of the loop, or none, lead from the initial state to a state that one copy of the loop or more leads back to, past an accepting
+-- state. Stem and loop have any length; without a letter in the loop there is no such word.
 --   repeated n v     n copies of v
 --   Meets A π        some state of π is accepting
---   Accepted A u v   the lasso word of stem u and loop v is accepted by A; with an empty loop it is none
--- Assumes nothing.
+--   Accepted A u v   the lasso word of stem u and loop v is accepted by A
+-- Shown by `verdict-decides-acceptance` of the crate verdict. Assumes nothing.
 use mathlib.Core.List.{List, [], _∷_, _++_, List·Memᴰ}
 use Prim.Native.Nat.{ℕ, zero, suc, _≤_}
 use lib.Dec.{T}

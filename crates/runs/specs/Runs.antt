@@ -1,9 +1,9 @@
--- Runs (01, "Dead ends" and "Entry, open, offer"; the paper, section 2).
+-- Runs of an automaton (01, "Dead ends" and "Entry, open, offer"; the paper, section 2). Nothing settles these: they are what the theorems
+-- speak of.
 --   Run A p w q ts   a run of A on the word w goes from p to q; ts are the states that it comes to, first to last
---   Prefix A w π     π are the states of a run prefix of A on w: "Run prefixes start in the initial state; on the empty word
---                    they are that state alone"
---   Reaches A p q    a run from p reaches q, in zero or more steps
---   OnLoop A q       q lies on a loop of one or more transitions
+--   Prefix A w π     π are the states of a run prefix of A on w: the initial state, and then those that a run on w comes to from it
+--   Reaches A p q    some run goes from p to q; on the empty word it stays at p
+--   OnLoop A q       some run on a word that is not empty goes from q back to q
 -- Assumes nothing.
 use mathlib.Core.Path.{_≡_}
 use mathlib.Core.List.{List, [], _∷_}

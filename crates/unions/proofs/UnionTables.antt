@@ -4,20 +4,20 @@ use mathlib.Core.Path.{_≡_, refl, sym, ap, ap₂, subst, _∙_}
 use mathlib.Core.Bool.{Bool, true, false, _&&_, _||_}
 use mathlib.Core.List.{List}
 use Prim.Native.Nat.{ℕ, zero, suc, _+_, _*_, _/_, _%_, _^_, _-_, _≤_, _<_}
-use native.Mathlib.Nat.{pow-suc, div-eq-of-lt, add-zero, add-suc}
+use native.Mathlib.Nat.{pow-suc, div-eq-of-lt, div-one, add-zero, add-suc}
 use native.Mathlib.Numerals.{add-one}
 use native.Mathlib.Omega.{arith}
 use lib.Bits.{bitOr}
 use lib.Dec.{eqb, ltb}
-use lib.ListN.{length, getD, set}
+use lib.ListN.{length, getD, set, length-set}
 use lib.Pow.{shr-shr}
 use lib.Seq.{getD-set-same, getD-set-other}
 use borrow.Author.Tests.{ltb-true, ltb-false, lt-ltb, le-ltb}
 use Rattle.automaton.specs.Ranges.{some}
 use Rattle.automaton.specs.Sets.{bit}
 use Rattle.automaton.proofs.Bits.{bit-zero, bit-or}
-use Rattle.sets.proofs.Rows.{some-none, some-more, some-same, bit-low, bit-high}
-use Rattle.unions.specs.Unions.{chosen, Choices, Unions, groupsWhere, groupsFor, Kept, Doubled}
+use Rattle.relations.proofs.Rows.{some-none, some-more, some-same, bit-low, bit-high, words-same, bit-with-row, Kept, changed-row, changed-kept, rows-changed}
+use Rattle.unions.specs.Unions.{chosen, unionOf, named, Choices, Unions, groupsWhere, groupsFor, doubled, filled}
 
 pub or-false : (b : Bool) → (b || false) ≡ b
 or-false true = refl
@@ -39,7 +39,18 @@ some-append f n (suc m) =
 
 -- Entries doubled.
 
-pub choices-begin : (table values : List ℕ) (at first : ℕ) → getD table at 0 ≡ 0 → Choices table at values first 0
+-- the n entries from place at on are followed by the same with the members of v besides
+record Doubled (table : List ℕ) (at n v : ℕ) (table′ : List ℕ) : Type 0 where
+  kept : Kept (at + n) n table table′
+  made : (m : ℕ) → m < n → getD table′ (at + n + m) 0 ≡ bitOr (getD table (at + m) 0) v
+
+doubled-says : {table′ : List ℕ} (table : List ℕ) (at n v : ℕ) → at + n + n ≤ length table → table′ ≡ doubled table at n v
+    → Doubled table at n v table′
+doubled-says table at n v h e =
+    subst (Doubled table at n v) (sym e)
+    record { kept = changed-kept (at + n) n _ table h; made = λ m l. changed-row (at + n) n _ table h m l }
+
+choices-begin : (table values : List ℕ) (at first : ℕ) → getD table at 0 ≡ 0 → Choices table at values first 0
 choices-begin table values at first e m q h =
     let l : m < 1 = h in
     let d : at + m ≡ at = omega arith in
@@ -49,7 +60,7 @@ choices-begin table values at first e m q h =
 bit-above : (m k : ℕ) → m < 2 ^ k → bit m k ≡ false
 bit-above m k h = ap (λ (x : ℕ). eqb (x % 2) 1) (div-eq-of-lt h)
 
-pub choices-double : (table table′ values : List ℕ) (at first k v : ℕ) → v ≡ getD values (first + k) 0
+choices-double : (table table′ values : List ℕ) (at first k v : ℕ) → v ≡ getD values (first + k) 0
     → Choices table at values first k → Doubled table at (2 ^ k) v table′ → Choices table′ at values first (suc k)
 choices-double table table′ values at first k v same c d m q h = go (ltb m (2 ^ k)) refl
   where
@@ -89,7 +100,7 @@ choices-double table table′ values at first k v same c d m q h = go (ltb m (2 
     go false e = past (m - 2 ^ k) (omega (arith, ltb-false m (2 ^ k) e))
 
 -- the first entry 0 and the others doubled from it, for four values
-pub choices-four : (t t₁ t₂ t₃ t₄ values : List ℕ) (at first : ℕ) → at < length t
+choices-four : (t t₁ t₂ t₃ t₄ values : List ℕ) (at first : ℕ) → at < length t
     → Doubled (set t at 0) at 1 (getD values first 0) t₁ → Doubled t₁ at 2 (getD values (first + 1) 0) t₂
     → Doubled t₂ at 4 (getD values (first + 2) 0) t₃ → Doubled t₃ at 8 (getD values (first + 3) 0) t₄
     → Choices t₄ at values first 4 × Kept at 16 t t₄
@@ -107,16 +118,79 @@ choices-four t t₁ t₂ t₃ t₄ values at first h d₁ d₂ d₃ d₄ =
       },
     )
 
+-- A table filled, and a table of unions.
+
+union-chosen : (values : List ℕ) (first k m q : ℕ) → bit (unionOf values first k m) q ≡ chosen values first k m q
+unfolding unionOf
+union-chosen values first zero m q = bit-zero q ∙ sym (some-none _)
+union-chosen values first (suc k) m q =
+    bit-with-row (unionOf values first k m) m k (getD values (first + k) 0) q
+    ∙ ap (λ (c : Bool). c || (bit m k && bit (getD values (first + k) 0) q)) (union-chosen values first k m q)
+    ∙ sym (some-more (λ b. bit m b && bit (getD values (first + b) 0) q) k)
+    ∙ ap (λ (j : ℕ). chosen values first j m q) (add-one k)
+
+module _ (t t′ values : List ℕ) (at first groups : ℕ) (fits : at + groups * 16 ≤ length t) where
+  pub filled-unions : t′ ≡ filled t at values first groups → Unions t′ at values first groups × Kept at (groups * 16) t t′
+  filled-unions e = subst (λ (x : List ℕ). Unions x at values first groups × Kept at (groups * 16) t x) (sym e) (entries, changed-kept at (groups * 16) _ t fits)
+    where
+      union : ℕ → ℕ
+      union j = unionOf values (first + j / 16 * 4) 4 (j % 16)
+
+      entries : Unions (filled t at values first groups) at values first groups
+      entries g h m q l =
+          let small : m < 16 = l in
+          let i : at + g * 16 + m ≡ at + (g * 16 + m) = omega arith in
+          let d : (g * 16 + m) / 16 ≡ g = omega arith in
+          let r : (g * 16 + m) % 16 ≡ m = omega arith in
+          ap (λ (x : ℕ). bit (getD (filled t at values first groups) x 0) q) i
+          ∙ ap (λ (w : ℕ). bit w q) (changed-row at (groups * 16) union t fits (g * 16 + m) (omega arith))
+          ∙ ap₂ (λ (x y : ℕ). bit (unionOf values (first + x * 4) 4 y) q) d r
+          ∙ union-chosen values (first + g * 4) 4 m q
+
+  pub unions-filled : length t′ ≡ length t → Unions t′ at values first groups × Kept at (groups * 16) t t′
+      → t′ ≡ filled t at values first groups
+  unions-filled e u = rows-changed at (groups * 16) _ t fits t′ e (u .1) (λ j h. words-same _ _ (λ q. at-entry j h q))
+    where
+      at-entry : (j : ℕ) → j < groups * 16 → (q : ℕ)
+          → bit (getD t′ (at + j) 0) q ≡ bit (unionOf values (first + j / 16 * 4) 4 (j % 16)) q
+      at-entry j h q =
+          let i : at + j ≡ at + j / 16 * 16 + j % 16 = omega arith in
+          ap (λ (x : ℕ). bit (getD t′ x 0) q) i
+          ∙ u .0 (j / 16) (omega arith) (j % 16) q (omega arith)
+          ∙ sym (union-chosen values (first + j / 16 * 4) 4 (j % 16) q)
+
+-- one group
+module _ (t values : List ℕ) (at first : ℕ) where
+  group-choices : Unions t at values first 1 → Choices t at values first 4
+  group-choices u = subst (λ (x : ℕ). Choices t x values first 4) (omega arith) (subst (λ (x : ℕ). Choices t (at + 0 * 16) values x 4) (omega arith) (u 0 (omega arith)))
+
+  choices-group : Choices t at values first 4 → Unions t at values first 1
+  choices-group c g h =
+      let i : at ≡ at + g * 16 = omega arith in
+      let d : first ≡ first + g * 4 = omega arith in
+      subst (λ (x : ℕ). Choices t x values (first + g * 4) 4) i (subst (λ (x : ℕ). Choices t at values x 4) d c)
+
+-- a table with its entry at place at 0 and then doubled by four values is filled with their group
+pub four-filled : (t t₁ t₂ t₃ t₄ values : List ℕ) (at first : ℕ) → at + 16 ≤ length t
+    → length t₁ ≡ length t → length t₂ ≡ length t → length t₃ ≡ length t → length t₄ ≡ length t
+    → t₁ ≡ doubled (set t at 0) at 1 (getD values first 0) → t₂ ≡ doubled t₁ at 2 (getD values (first + 1) 0)
+    → t₃ ≡ doubled t₂ at 4 (getD values (first + 2) 0) → t₄ ≡ doubled t₃ at 8 (getD values (first + 3) 0)
+    → t₄ ≡ filled t at values first 1
+four-filled t t₁ t₂ t₃ t₄ values at first h l₁ l₂ l₃ l₄ d₁ d₂ d₃ d₄ =
+    let c = choices-four t t₁ t₂ t₃ t₄ values at first (omega arith)
+    (doubled-says (set t at 0) at 1 _ (omega (arith, length-set t at 0)) d₁) (doubled-says t₁ at 2 _ (omega arith) d₂)
+    (doubled-says t₂ at 4 _ (omega arith) d₃) (doubled-says t₃ at 8 _ (omega arith) d₄) in
+    unions-filled t t₄ values at first 1 h l₄ (choices-group t₄ values at first (c .0), c .1)
+
 -- Groups filled one after another.
 
 module _ (values : List ℕ) (at first : ℕ) where
   pub unions-begin : (t : List ℕ) → Unions t at values first 0 × Kept at (0 * 16) t t
   unions-begin t = (λ g h. absurd (omega arith), record { before = λ i h. refl; after = λ i h. refl })
 
-  pub unions-go-on : (t t′ t″ : List ℕ) (g : ℕ) → Unions t′ at values first g × Kept at (g * 16) t t′
-      → Choices t″ (at + g * 16) values (first + g * 4) 4 × Kept (at + g * 16) 16 t′ t″
-      → Unions t″ at values first (g + 1) × Kept at ((g + 1) * 16) t t″
-  unions-go-on t t′ t″ g u c = (
+  pub unions-go-on : (t t′ t″ : List ℕ) (g : ℕ) → at + g * 16 + 16 ≤ length t′ → Unions t′ at values first g × Kept at (g * 16) t t′
+      → t″ ≡ filled t′ (at + g * 16) values (first + g * 4) 1 → Unions t″ at values first (g + 1) × Kept at ((g + 1) * 16) t t″
+  unions-go-on t t′ t″ g fits u e = (
     λ j h. go j h (ltb j g) refl,
     record {
       before = λ i h. c .1 .before i (omega arith) ∙ u .1 .before i h;
@@ -124,6 +198,12 @@ module _ (values : List ℕ) (at first : ℕ) where
     },
   )
     where
+      group : Unions t″ (at + g * 16) values (first + g * 4) 1 × Kept (at + g * 16) 16 t′ t″
+      group = filled-unions t′ t″ values (at + g * 16) (first + g * 4) 1 fits e
+
+      c : Choices t″ (at + g * 16) values (first + g * 4) 4 × Kept (at + g * 16) 16 t′ t″
+      c = (group-choices t″ values (at + g * 16) (first + g * 4) (group .0), group .1)
+
       go : (j : ℕ) → j < g + 1 → (b : Bool) → ltb j g ≡ b → Choices t″ (at + j * 16) values (first + j * 4) 4
       go j h true e = λ m q l.
           let less = ltb-true j g e in
@@ -160,13 +240,8 @@ chosen-append values first m k choice q =
         let i : first + (m + b) ≡ first + m + b = omega arith in
         ap₂ (λ (x : Bool) (j : ℕ). x && bit (getD values j 0) q) (sym (ap (λ (x : ℕ). eqb (x % 2) 1) (shr-shr choice m b))) i
 
-pub union-both : (values : List ℕ) (first m k choice left right q : ℕ)
-    → bit left q ≡ chosen values first m choice q → bit right q ≡ chosen values (first + m) k (choice / 2 ^ m) q
-    → bit (bitOr left right) q ≡ chosen values first (m + k) choice q
-union-both values first m k choice left right q e d = bit-or left right q ∙ ap₂ _||_ e d ∙ sym (chosen-append values first m k choice q)
-
 -- four bits
-pub union-one : (table values : List ℕ) (at first choice q : ℕ) → Choices table at values first 4
+union-one : (table values : List ℕ) (at first choice q : ℕ) → Choices table at values first 4
     → bit (getD table (at + choice % 16) 0) q ≡ chosen values first 4 choice q
 union-one table values at first choice q c =
     let l : choice % 16 < 16 = omega arith in
@@ -175,20 +250,49 @@ union-one table values at first choice q c =
     ∙ some-same _ (λ b. bit choice b && bit (getD values (first + b) 0) q) 4
     (λ b h. ap (λ (x : Bool). x && bit (getD values (first + b) 0) q) (low-bits choice 4 b h (choice % 16) w))
 
--- Groups taken apart.
+-- the entries that a word names in a table of unions have together what it chooses
+pub named-chosen : (table values : List ℕ) (at first groups choice q : ℕ) → Unions table at values first groups
+    → named table at groups choice q ≡ chosen values first (groups * 4) choice q
+named-chosen table values at first zero choice q u = some-none _ ∙ sym (some-none _)
+named-chosen table values at first (suc g) choice q u =
+    ap (λ (k : ℕ). named table at k choice q) (sym (add-one g))
+    ∙ some-more (λ b. bit (getD table (at + b * 16 + choice / 2 ^ (b * 4) % 16) 0) q) g
+    ∙ ap₂ _||_ (named-chosen table values at first g choice q (λ b h. u b (omega arith)))
+    (union-one table values (at + g * 16) (first + g * 4) (choice / 2 ^ (g * 4)) q (u g (omega arith)))
+    ∙ sym (chosen-append values first (g * 4) 4 choice q)
+    ∙ ap (λ (k : ℕ). chosen values first k choice q) (omega arith)
 
-module _ (table values : List ℕ) (at first : ℕ) where
-  pub group-at : (g groups at′ first′ : ℕ) → g < groups → at + g * 16 ≡ at′ → first + g * 4 ≡ first′
-      → Unions table at values first groups → Choices table at′ values first′ 4
-  group-at g groups at′ first′ h e d u = subst (λ (x : ℕ). Choices table x values first′ 4) e
-      (subst (λ (x : ℕ). Choices table (at + g * 16) values x 4) d (u g h))
+-- Entries named by parts of a word.
 
-  pub unions-front : (m groups : ℕ) → m ≤ groups → Unions table at values first groups → Unions table at values first m
-  unions-front m groups h u g l = u g (omega arith)
+module _ (table : List ℕ) where
+  named-append : (at m k choice q : ℕ)
+      → named table at (m + k) choice q ≡ (named table at m choice q || named table (at + m * 16) k (choice / 2 ^ (m * 4)) q)
+  named-append at m k choice q =
+      some-append test m k ∙ ap (λ (c : Bool). some test m 0 || c) (some-same (λ g. test (m + g)) _ k (λ g h. at-group g))
+    where
+      test : ℕ → Bool
+      test g = bit (getD table (at + g * 16 + choice / 2 ^ (g * 4) % 16) 0) q
 
-  pub unions-back : (m k : ℕ) → Unions table at values first (m + k) → Unions table (at + m * 16) values (first + m * 4) k
-  unions-back m k u g h =
-      group-at (m + g) (m + k) (at + m * 16 + g * 16) (first + m * 4 + g * 4) (omega arith) (omega arith) (omega arith) u
+      at-group : (g : ℕ) → test (m + g) ≡ bit (getD table (at + m * 16 + g * 16 + choice / 2 ^ (m * 4) / 2 ^ (g * 4) % 16) 0) q
+      at-group g =
+          let i : at + (m + g) * 16 ≡ at + m * 16 + g * 16 = omega arith in
+          let j : (m + g) * 4 ≡ m * 4 + g * 4 = omega arith in
+          let x : choice / 2 ^ ((m + g) * 4) ≡ choice / 2 ^ (m * 4) / 2 ^ (g * 4) =
+          ap (λ (y : ℕ). choice / 2 ^ y) j ∙ sym (shr-shr choice (m * 4) (g * 4)) in
+          ap₂ (λ (y z : ℕ). bit (getD table (y + z % 16) 0) q) i x
+
+  pub named-both : (at m k choice left right q : ℕ)
+      → bit left q ≡ named table at m choice q → bit right q ≡ named table (at + m * 16) k (choice / 2 ^ (m * 4)) q
+      → bit (bitOr left right) q ≡ named table at (m + k) choice q
+  named-both at m k choice left right q e d = bit-or left right q ∙ ap₂ _||_ e d ∙ sym (named-append at m k choice q)
+
+  pub named-one : (at choice q : ℕ) → bit (getD table (at + choice % 16) 0) q ≡ named table at 1 choice q
+  unfolding some
+  named-one at choice q =
+      let i : at + choice % 16 ≡ at + 0 * 16 + choice % 16 = omega arith in
+      ap (λ (x : ℕ). bit (getD table x 0) q) i
+      ∙ ap (λ (x : ℕ). bit (getD table (at + 0 * 16 + x % 16) 0) q) (sym (div-one choice))
+      ∙ sym (or-false _)
 
 -- The number of groups.
 

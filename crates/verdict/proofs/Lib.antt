@@ -1,7 +1,4 @@
--- The computed verdict is the acceptance of lasso words.
-pub mod StateSets
-pub mod LoopRuns
-pub mod VerdictTheorem
+-- Laws of the verdict's words and tables.
 pub mod Pairs
 pub mod WordSets
 pub mod WordVerdict

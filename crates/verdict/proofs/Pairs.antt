@@ -9,7 +9,7 @@ use lib.Dec.{eqb}
 use lib.Pow.{shr-shr}
 use Rattle.automaton.specs.Sets.{bit}
 use Rattle.automaton.proofs.Bits.{bit-zero, bit-or}
-use Rattle.sets.proofs.Rows.{bit-low, bit-high}
+use Rattle.relations.proofs.Rows.{bit-low, bit-high}
 use Rattle.unions.proofs.UnionTables.{or-false, low-bits}
 
 pub low-half : (w q : ℕ) → q < 32 → bit (w % 4294967296) q ≡ bit w q

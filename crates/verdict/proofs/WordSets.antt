@@ -7,17 +7,17 @@ use Prim.Native.Nat.{ℕ, _+_, _*_, _-_, _≤_, _<_}
 use native.Mathlib.Nat.{zero-add}
 use native.Mathlib.Numerals.{add-one}
 use native.Mathlib.Omega.{arith}
-use lib.Dec.{T, eqb}
+use lib.Dec.{T, eqb, ltb}
 use lib.ListN.{length, getD, drop}
 use lib.Seq.{drop-cons, drop-length}
-use borrow.Author.Tests.{ne-eqb}
+use borrow.Author.Tests.{ne-eqb, lt-ltb}
 use Rattle.automaton.specs.declared.Automaton.{Automaton}
 use Rattle.automaton.specs.Ranges.{some, table}
 use Rattle.automaton.specs.Sets.{bit}
 use Rattle.automaton.specs.Automata.{accepts, transition, transitionBit, InRange}
 use Rattle.automaton.specs.Members.{transitionIn}
-use Rattle.sets.specs.Closure.{related, holdsRow}
-use Rattle.verdict.specs.Verdict.{inSet, onLetter, onWord, loopRuns, loopVisits}
+use Rattle.relations.specs.Closure.{related, holdsRow}
+use Rattle.lassos.specs.Verdict.{inSet, onLetter, onWord, loopRuns, loopVisits}
 use Rattle.unions.specs.Unions.{chosen, groupsFor}
 use Rattle.verdict.specs.Words.{setOf, HeldRows, HeldAccepting, Met, Turned}
 use Rattle.automaton.proofs.Tests.{and-both, both-and, same-test, not-T-false}
@@ -25,18 +25,25 @@ use Rattle.automaton.proofs.Bits.{bit-zero}
 use Rattle.automaton.proofs.Ranges.{table-at, some-below}
 use Rattle.automaton.proofs.Transitions.{transition-parts, transition-from, transition-on, transition-into}
 use Rattle.automaton.proofs.InRange.{inHeader, in-header-iff}
-use Rattle.sets.proofs.Closure.{related-relation}
-use Rattle.sets.proofs.Rows.{table-same, some-same, some-cut}
+use Rattle.relations.proofs.Closure.{related-relation}
+use Rattle.relations.proofs.Rows.{table-same, some-same, some-cut}
 use Rattle.unions.proofs.UnionTables.{groups-enough}
 
 -- The rows of an automaton in range.
 
 pub rows-held : (A : Automaton) → InRange A → (rows : List ℕ)
-    → ((a p q : ℕ) → a < A .letters → p < 32 → q < 32 → holdsRow rows (a * 32 + p) q ≡ transitionIn (A .transitions) p a q)
+    → ((a p q : ℕ) → a < A .letters → p < 32 → holdsRow rows (a * 32 + p) q ≡ (ltb q 32 && transitionIn (A .transitions) p a q))
     → HeldRows A (A .states) (A .letters) rows
 unfolding transition
 rows-held A r rows e =
-    record { in-range = r; states = refl; letters = refl; targets = λ a p q ha hp hq. e a p q ha hp hq ∙ same a p q ha hp hq }
+    record {
+      in-range = r;
+      states = refl;
+      letters = refl;
+      targets = λ a p q ha hp hq. e a p q ha hp
+          ∙ ap (λ (b : Bool). b && transitionBit A p a q) (lt-ltb q 32 hq)
+          ∙ same a p q ha hp hq;
+    }
   where
     same : (a p q : ℕ) → a < A .letters → p < 32 → q < 32 → transitionBit A p a q ≡ transition A p a q
     same a p q ha hp hq =

@@ -11,14 +11,14 @@ use Rattle.automaton.specs.declared.Automaton.{Automaton}
 use Rattle.automaton.specs.Ranges.{some}
 use Rattle.automaton.specs.Sets.{bit, withBit, member}
 use Rattle.automaton.specs.Automata.{accepts}
-use Rattle.sets.specs.Closure.{related, relation, closure, reaches, holdsRow}
-use Rattle.verdict.specs.Verdict.{inSet, only, onWord, loopRuns, loopVisits, accepted}
+use Rattle.relations.specs.Closure.{related, relation, closure, reaches, holdsRow}
+use Rattle.lassos.specs.Verdict.{inSet, only, onWord, loopRuns, loopVisits, accepted}
 use Rattle.verdict.specs.Words.{setOf, HeldAccepting, turnsFrom}
 use Rattle.automaton.proofs.Tests.{and-both, both-and, same-test}
 use Rattle.automaton.proofs.Ranges.{table-at, some-at, some-below}
 use Rattle.automaton.proofs.Bits.{bit-zero, bit-with}
-use Rattle.sets.proofs.Closure.{related-relation}
-use Rattle.sets.proofs.Rows.{table-same, some-same}
+use Rattle.relations.proofs.Closure.{related-relation}
+use Rattle.relations.proofs.Rows.{table-same, some-same}
 use Rattle.verdict.proofs.Pairs.{low-half}
 
 -- Two searches.

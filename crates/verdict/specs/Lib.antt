@@ -1,3 +1,2 @@
--- The lasso verdict, computed (01, "Verdict").
-pub mod Verdict
+-- The verdict as the code holds it: sets and pairs of sets as words.
 pub mod Words

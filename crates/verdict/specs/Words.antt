@@ -1,5 +1,6 @@
--- How the code holds what the verdict computes with: sets of states as words, and an automaton as its numbers of states and letters and
--- the rows of its letters. A pair of a state has the ends of its runs on a word in bits 0 to 31, and those of its visits in bits 32 to 63.
+-- How the code holds what the verdict computes with (01, "Verdict"); only contracts between functions name it. Sets of states are words, and an
+-- automaton is its numbers of states and letters and the rows of its letters. A pair of a state has the ends of its runs on a word in bits 0
+-- to 31, and those of its visits in bits 32 to 63.
 --   setOf n w                the set of the states below n that the word w has
 --   HeldRows A n k rows      A is in range, it has n states and k letters, and row a * 32 + p has the targets of p on letter a
 --   HeldUnions A n k t       t has, for each letter of A, the unions of the choices of its rows
@@ -8,7 +9,7 @@
 --   Turned A n v pairs       pairs are the pairs of the n states for the word v
 --   comesBack n runs visits r      the rows visits lead from r to some state that the rows runs lead back to r from
 --   turnsFrom n runs visits ends   the rows runs lead from a state of ends to some state that comes back
--- Assumes nothing.
+-- Shown by `words-decide`. Assumes nothing.
 use mathlib.Core.Path.{_≡_}
 use mathlib.Core.Bool.{Bool, _&&_, _||_}
 use mathlib.Core.List.{List}
@@ -17,8 +18,8 @@ use Rattle.automaton.specs.declared.Automaton.{Automaton}
 use Rattle.automaton.specs.Ranges.{some, table}
 use Rattle.automaton.specs.Sets.{bit}
 use Rattle.automaton.specs.Automata.{accepts, transition, InRange}
-use Rattle.sets.specs.Closure.{related, holdsRow}
-use Rattle.verdict.specs.Verdict.{loopRuns, loopVisits}
+use Rattle.relations.specs.Closure.{related, holdsRow}
+use Rattle.lassos.specs.Verdict.{loopRuns, loopVisits}
 use Rattle.unions.specs.Unions.{Unions, groupsFor}
 
 abbrev pub setOf : ℕ → ℕ → List Bool

@@ -1,33 +1,38 @@
 // The verdict on a lasso word, with sets of states as words: the states that the stem leads to, for each state what the loop leads to
 // and what it leads to by way of an accepting state, and what copies of the loop join.
 use automaton::Automaton;
+use automaton::MAX_STATES;
 ghost use mathlib.Core.Path.{_≡_};
 ghost use mathlib.Core.Bool.{_&&_, _||_};
 ghost use mathlib.Core.List.{List, [], _∷_};
 ghost use Prim.Native.Nat.{ℕ, _+_, _*_, _<_, _≤_};
-ghost use lib.Dec.{eqb};
-ghost use lib.ListN.{length};
+ghost use lib.Dec.{eqb, ltb};
+ghost use lib.ListN.{length, getD};
 ghost use Rattle.automaton.specs.declared.Automaton.{Automaton};
 ghost use Rattle.automaton.specs.Ranges.{some};
 ghost use Rattle.automaton.specs.Sets.{bit};
 ghost use Rattle.automaton.specs.Automata.{transition, InRange};
 ghost use Rattle.automaton.specs.Members.{transitionIn};
-ghost use Rattle.sets.specs.Closure.{related, holdsRow};
-ghost use Rattle.verdict.specs.Verdict.{only, onLetter, onWord, loopRuns, loopVisits, accepted};
+ghost use Rattle.relations.specs.Closure.{related, holdsRow};
+ghost use Rattle.lassos.specs.Verdict.{only, onLetter, onWord, loopRuns, loopVisits, accepted};
 ghost use Rattle.unions.specs.Unions.{Unions, groupsFor};
 ghost use Rattle.verdict.specs.Words.{setOf, HeldRows, HeldUnions, HeldAccepting, Met, Turned, comesBack, turnsFrom};
 
-// Row a * 32 + p becomes the targets of p on letter a.
+// The entries of the unions of one letter: 16 for every four of its 32 rows.
+const UNIONS: usize = 128;
+
+// Row a * 32 + p becomes the targets of p on letter a; the rows past the letters stay.
 fn letter_rows(transitions: &[u8; 2048], letters: usize, rows: &mut [u64])
     requires { ⌜ (letters ≤ 16) × (letters * 32 ≤ length (now rows)) ⌝ }
-    ensures { λ _. ⌜
-        ((a p q : ℕ) → a < letters → p < 32 → q < 32
-        → holdsRow (now (rows .exit)) (a * 32 + p) q ≡ transitionIn (now (transitions .entry)) p a q)
+    ensures first { λ _. ⌜
+        ((a p q : ℕ) → a < letters → p < 32
+        → holdsRow (now (rows .exit)) (a * 32 + p) q ≡ (ltb q 32 && transitionIn (now (transitions .entry)) p a q))
         ⌝ }
+    ensures others { λ _. ⌜ ((i : ℕ) → letters * 32 ≤ i → getD (now (rows .exit)) i 0 ≡ getD (now (rows .entry)) i 0) ⌝ }
 {
     let mut i: usize = 0;
-    while i < letters * 32 {
-        rows[i] = sets::row(transitions, i % 32, i / 32) as u64;
+    while i < letters * MAX_STATES {
+        rows[i] = relations::row(transitions, i % MAX_STATES, i / MAX_STATES) as u64;
         i += 1;
     }
 }
@@ -44,7 +49,7 @@ fn letter_unions(rows: &[u64], letters: usize, n: usize, tables: &mut [u64])
     let groups = unions::groups_for(n);
     let mut a: usize = 0;
     while a < letters {
-        unions::fill(tables, a * 128, rows, a * 32, groups);
+        unions::fill(tables, a * UNIONS, rows, a * MAX_STATES, groups);
         a += 1;
     }
 }
@@ -58,7 +63,7 @@ fn on_letter(tables: &[u64], letters: usize, n: usize, set: u64, letter: u8) -> 
 {
     let a = letter as usize;
     if a < letters {
-        unions::union(tables, a * 128, n, set)
+        unions::union(tables, a * UNIONS, n, set)
     } else {
         0
     }
@@ -89,7 +94,7 @@ fn stem_ends(rows: &[u64], letters: usize, n: usize, p: usize, stem: &[u8]) -> u
 {
     let mut tables = [0u64; 2048];
     letter_unions(rows, letters, n, &mut tables);
-    (on_word(&tables, letters, n, sets::with_state(0, p) as u64, stem) % 4294967296) as u32
+    (on_word(&tables, letters, n, relations::with_state(0, p) as u64, stem) % 4294967296) as u32
 }
 
 // The targets of p on the letter; there are none where the automaton lacks the letter.
@@ -100,7 +105,11 @@ fn letter_row(rows: &[u64], letters: usize, letter: u8, p: usize) -> u64
         ⌝ }
 {
     let a = letter as usize;
-    if a < letters { rows[a * 32 + p] } else { 0 }
+    if a < letters {
+        rows[a * MAX_STATES + p]
+    } else {
+        0
+    }
 }
 
 // A pair has the ends of runs in its low half and those of visits in its high half. The pair of t for runs that begin one step before t:
@@ -110,17 +119,18 @@ fn met(pair: u64, accepting: u32, t: usize) -> u64
     ensures { λ r. ⌜ ((q : ℕ) → q < 32 → bit r q ≡ bit pair q) ⌝ }
     ensures { λ r. ⌜ ((q : ℕ) → q < 32 → bit r (32 + q) ≡ (bit pair (32 + q) || (bit accepting t && bit pair q))) ⌝ }
 {
-    if sets::holds(accepting, t) {
+    if relations::holds(accepting, t) {
         pair | (pair % 4294967296) * 4294967296
     } else {
         pair
     }
 }
 
-// The same of n pairs.
+// The same of n pairs; the places from n on of `after` stay.
 fn met_pairs(pairs: &[u64], n: usize, accepting: u32, after: &mut [u64])
     requires { ⌜ (n ≤ 32) × (n ≤ length (now pairs)) × (n ≤ length (now after)) ⌝ }
-    ensures { λ _. ⌜ Met n accepting (now (pairs .entry)) (now (after .exit)) ⌝ }
+    ensures first { λ _. ⌜ Met n accepting (now (pairs .entry)) (now (after .exit)) ⌝ }
+    ensures others { λ _. ⌜ ((t : ℕ) → n ≤ t → getD (now (after .exit)) t 0 ≡ getD (now (after .entry)) t 0) ⌝ }
 {
     let mut t: usize = 0;
     while t < n {
@@ -180,8 +190,8 @@ fn turn_word(rows: &[u64], letters: usize, n: usize, accepting: u32, turn: &[u8]
         → Turned A n [] (now (pairs .entry)) → Turned A n (now (turn .entry)) (now (pairs .exit)))
         ⌝ }
 {
-    let mut after = [0u64; 32];
-    let mut table = [0u64; 128];
+    let mut after = [0u64; MAX_STATES];
+    let mut table = [0u64; UNIONS];
     let mut i = turn.len();
     while i > 0 {
         i -= 1;
@@ -198,19 +208,20 @@ fn turn_word(rows: &[u64], letters: usize, n: usize, accepting: u32, turn: &[u8]
     }
 }
 
-// The pairs of n states for the empty word: each state leads to itself, without a visit.
+// The pairs of n states for the empty word: each state leads to itself, without a visit. The places from n on stay.
 fn diagonal(pairs: &mut [u64], n: usize)
     requires { ⌜ (n ≤ 32) × (n ≤ length (now pairs)) ⌝ }
-    ensures { λ _. ⌜ ((p q : ℕ) → p < n → holdsRow (now (pairs .exit)) p q ≡ eqb p q) ⌝ }
+    ensures first { λ _. ⌜ ((p q : ℕ) → p < n → holdsRow (now (pairs .exit)) p q ≡ eqb p q) ⌝ }
+    ensures others { λ _. ⌜ ((p : ℕ) → n ≤ p → getD (now (pairs .exit)) p 0 ≡ getD (now (pairs .entry)) p 0) ⌝ }
 {
     let mut p: usize = 0;
     while p < n {
-        pairs[p] = sets::with_state(0, p) as u64;
+        pairs[p] = relations::with_state(0, p) as u64;
         p += 1;
     }
 }
 
-// The low and the high half of each of n pairs.
+// The low and the high half of each of n pairs; the rows from n on stay.
 fn halves(pairs: &[u64], n: usize, runs: &mut [u32], visits: &mut [u32])
     requires { ⌜ (n ≤ 32) × (n ≤ length (now pairs)) × (n ≤ length (now runs)) × (n ≤ length (now visits)) ⌝ }
     ensures { λ _. ⌜
@@ -219,6 +230,8 @@ fn halves(pairs: &[u64], n: usize, runs: &mut [u32], visits: &mut [u32])
     ensures { λ _. ⌜
         ((p q : ℕ) → p < n → q < 32 → holdsRow (now (visits .exit)) p q ≡ holdsRow (now (pairs .entry)) p (32 + q))
         ⌝ }
+    ensures { λ _. ⌜ ((p : ℕ) → n ≤ p → getD (now (runs .exit)) p 0 ≡ getD (now (runs .entry)) p 0) ⌝ }
+    ensures { λ _. ⌜ ((p : ℕ) → n ≤ p → getD (now (visits .exit)) p 0 ≡ getD (now (visits .entry)) p 0) ⌝ }
 {
     let mut p: usize = 0;
     while p < n {
@@ -250,7 +263,7 @@ fn loop_rows(
         → (p q : ℕ) → p < n → q < n → holdsRow (now (visits .exit)) p q ≡ related (loopVisits A (now (turn .entry))) p q)
         ⌝ }
 {
-    let mut pairs = [0u64; 32];
+    let mut pairs = [0u64; MAX_STATES];
     diagonal(&mut pairs, n);
     turn_word(rows, letters, n, accepting, turn, &mut pairs);
     halves(&pairs, n, runs, visits);
@@ -261,8 +274,8 @@ fn turns_at(runs: &[u32], visits: &[u32], n: usize, reached: u32, r: usize) -> b
     requires { ⌜ (r < n) × (n ≤ 32) × (n ≤ length (now runs)) × (n ≤ length (now visits)) ⌝ }
     ensures { λ b. ⌜ b ≡ (bit reached r && comesBack n (now (runs .entry)) (now (visits .entry)) r) ⌝ }
 {
-    if sets::holds(reached, r) {
-        sets::holds(sets::spread(runs, visits[r], n), r)
+    if relations::holds(reached, r) {
+        relations::holds(relations::spread(runs, visits[r], n), r)
     } else {
         false
     }
@@ -273,7 +286,7 @@ fn turns(runs: &[u32], visits: &[u32], n: usize, ends: u32) -> bool
     requires { ⌜ (n ≤ 32) × (n ≤ length (now runs)) × (n ≤ length (now visits)) ⌝ }
     ensures { λ b. ⌜ b ≡ turnsFrom n (now (runs .entry)) (now (visits .entry)) ends ⌝ }
 {
-    let reached = sets::spread(runs, ends, n);
+    let reached = relations::spread(runs, ends, n);
     let mut r: usize = 0;
     while r < n {
         if turns_at(runs, visits, n, reached, r) {
@@ -296,18 +309,18 @@ pub fn accepted(a: Automaton, stem: &[u8], turn: &[u8]) -> bool
     let mut rows = [0u64; 512];
     letter_rows(&transitions, letters, &mut rows);
     let ends = stem_ends(&rows, letters, n, a.initial, stem);
-    let mut runs = [0u32; 32];
-    let mut visits = [0u32; 32];
+    let mut runs = [0u32; MAX_STATES];
+    let mut visits = [0u32; MAX_STATES];
     loop_rows(
         &rows,
         letters,
         n,
-        sets::of_bytes(&accepting),
+        relations::of_bytes(&accepting),
         turn,
         &mut runs,
         &mut visits,
     );
-    sets::close(&mut runs, n);
-    sets::add_diagonal(&mut runs, n);
+    relations::close(&mut runs, n);
+    relations::add_diagonal(&mut runs, n);
     turns(&runs, &visits, n, ends)
 }

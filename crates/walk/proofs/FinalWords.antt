@@ -12,15 +12,15 @@ use Rattle.slots.specs.declared.Vertex.{Vertex}
 use Rattle.slots.specs.Slots.{slotCount}
 use Rattle.slots.specs.Bytes.{letterAt, parentAt, Falls, backFrom, wordAt}
 use Rattle.slots.proofs.Words.{letter-put}
-use Rattle.walk.specs.declared.Walked.the-variants.{Differs}
-use Rattle.walk.specs.Discovery.{Graph, Node, ended, root, at, back, wordTo}
-use Rattle.walk.specs.LagGraph.{lagGraph}
-use Rattle.walk.specs.Walks.{wordOf, Fits, wordAfter}
+use Rattle.walk.specs.declared.Walked.the-variants.{Ended}
+use Rattle.graph.specs.Discovery.{Graph, Node, ended, root, at, back, wordTo}
+use Rattle.graph.specs.LagGraph.{lagGraph}
+use Rattle.graph.specs.Walks.{wordOf, Fits, wordAfter}
 use Rattle.walk.specs.Shown.{Wide, Shown, FoundFinal, WordRead}
-use Rattle.walk.proofs.Visits.{at-left, at-last, length-snoc}
-use Rattle.walk.proofs.Parents.{Linked}
-use Rattle.walk.proofs.Words.{word-step}
-use Rattle.walk.proofs.WalkTheorem.{walk-ended, list-links, list-in-range}
+use Rattle.graph.proofs.Visits.{at-left, at-last, length-snoc}
+use Rattle.graph.proofs.Parents.{Linked}
+use Rattle.graph.proofs.Words.{word-step}
+use Rattle.graph.proofs.WalkTheorem.{walk-ended, list-links, list-in-range}
 use Rattle.walk.proofs.ShownSlots.{slot-shown, shown-length}
 
 all-wide : (ns : List (Node Vertex)) (d : Node Vertex) → ((i : ℕ) → i < length ns → length (getD ns i d .vertex .counters) ≡ maxStates)
@@ -54,10 +54,10 @@ module _ (work : List ℕ) (place letter parent : ℕ) (E : FoundFinal work plac
       (ended (E .nodes) (E .last)) fits i
       (omega (arith, long)) .all-counters)
 
-  shown : Shown work (Differs place letter parent) (E .start) (ended (E .nodes) (E .last))
+  shown : Shown work (Ended place letter parent) (E .start) (ended (E .nodes) (E .last))
   shown =
       record {
-        answer = ap₂ (λ (x : ℕ × ℕ) (p : ℕ). Differs (x .0) (x .1) p) (ap₂ (λ (x y : ℕ). (x, y)) (E .place-is) (E .letter-is))
+        answer = ap₂ (λ (x : ℕ × ℕ) (p : ℕ). Ended (x .0) (x .1) p) (ap₂ (λ (x y : ℕ). (x, y)) (E .place-is) (E .letter-is))
             (E .parent-is);
         bytes = E .bytes;
         wide = wide;
@@ -66,7 +66,7 @@ module _ (work : List ℕ) (place letter parent : ℕ) (E : FoundFinal work plac
 
   slot : (i : ℕ) → i < length (E .nodes) → (letterAt work i ≡ at graph list i .letter) × (parentAt work i ≡ at graph list i .parent)
   slot i h =
-      let s = slot-shown (E .left) (E .right) (E .bound) work (Differs place letter parent) (E .start) (ended (E .nodes) (E .last)) shown
+      let s = slot-shown (E .left) (E .right) (E .bound) work (Ended place letter parent) (E .start) (ended (E .nodes) (E .last)) shown
       i h in
       let q = at-left graph (E .nodes) (E .last ∷ []) i h in
       (s .1 ∙ ap (λ (n : Node Vertex). n .letter) (sym q), s .2 ∙ ap (λ (n : Node Vertex). n .parent) (sym q))
@@ -85,7 +85,7 @@ module _ (work : List ℕ) (place letter parent : ℕ) (E : FoundFinal work plac
 
   pub parent-slot : 0 < place → parent < slotCount (length work)
   parent-slot h =
-      let l = ap slotCount (shown-length work (Differs place letter parent) (E .start) (ended (E .nodes) (E .last)) shown) in
+      let l = ap slotCount (shown-length work (Ended place letter parent) (E .start) (ended (E .nodes) (E .last)) shown) in
       omega (arith, below h, E .place-is, fits .room)
 
   pub parents-fall : 0 < place → Falls work parent

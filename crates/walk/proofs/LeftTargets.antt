@@ -16,7 +16,7 @@ use Rattle.automaton.specs.Ranges.{some}
 use Rattle.automaton.specs.Sets.{bit, member}
 use Rattle.automaton.proofs.Ranges.{some-at}
 use Rattle.automaton.proofs.Tests.{clash, both-and, is-true, T-true}
-use Rattle.sets.proofs.Rows.{bit-and}
+use Rattle.relations.proofs.Rows.{bit-and}
 use Rattle.walk.specs.Shown.{Side, StepsTo, Needed}
 use Rattle.walk.proofs.SteppedBytes.{accepts-in-range}
 

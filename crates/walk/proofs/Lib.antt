@@ -1,16 +1,4 @@
--- Laws of the discovery list, and the theorem that the walk decides containment.
-pub mod Visits
-pub mod Capacity
-pub mod Parents
-pub mod DiscoveryLaws
-pub mod Words
-pub mod Distinct
-pub mod CounterSteps
-pub mod Counters
-pub mod CounterMeaning
-pub mod Paths
-pub mod VertexRanges
-pub mod WalkTheorem
+-- How the code of the walk keeps the slots and their index.
 pub mod SteppedBytes
 pub mod MaskRows
 pub mod LeftTargets

@@ -23,29 +23,29 @@ use Rattle.slots.specs.Slots.{slotCount}
 use Rattle.slots.specs.Bytes.{countersHash}
 use Rattle.walk.specs.declared.Step.{Step}
 use Rattle.walk.specs.declared.Walked.{Walked}
-use Rattle.walk.specs.declared.Walked.the-variants.{Contained, Differs, Full}
-use Rattle.walk.specs.Discovery.{Node, Walk, going, ended, full, below, visit, visits}
-use Rattle.walk.specs.LagGraph.{successor, lagGraph}
+use Rattle.walk.specs.declared.Walked.the-variants.{Going, Ended, Full}
+use Rattle.graph.specs.Discovery.{Node, Walk, going, ended, full, below, visit, visits}
+use Rattle.graph.specs.LagGraph.{successor, lagGraph}
 use Rattle.walk.specs.Shown.{Shown, Becomes, Ready, Side, RightSide, StepOf, largestInto, counterFrom, Masks, NoneFrom, Needed}
 use Rattle.walk.proofs.Walked.{the-type}
-use Rattle.walk.proofs.Visits.{visits-ended, visits-full, visits-append}
+use Rattle.graph.proofs.Visits.{visits-ended, visits-full, visits-append}
 use Rattle.walk.proofs.SteppedBytes.{transition-in-range, accepts-in-range, stepped-is}
 
 -- an answer that ends the loops
 abbrev pub Stops : Walked → Type 0
-Stops (Contained n) = ⊥
-Stops (Differs i a p) = Unit {0}
+Stops (Going n) = ⊥
+Stops (Ended i a p) = Unit {0}
 Stops (Full n) = Unit {0}
 
--- what a match that is not for `Contained` knows
+-- what a match that is not for `Going` knows
 pub other-stops : (r : Walked) → OneOf (1 ∷ 2 ∷ []) (tagOf the-type r) → Stops r
-other-stops (Contained n) (inl e) = absurd (omega arith)
-other-stops (Contained n) (inr e) = absurd (omega arith)
-other-stops (Differs i a p) e = tt
+other-stops (Going n) (inl e) = absurd (omega arith)
+other-stops (Going n) (inr e) = absurd (omega arith)
+other-stops (Ended i a p) e = tt
 other-stops (Full n) e = tt
 
-pub shown-going : (work : List ℕ) (r : Walked) (x : ℕ) (start : List ℕ) (w : Walk Vertex) → r ≡ Contained x → Shown work r start w
-    → (ms : List (Node Vertex)) × (w ≡ going ms) × Shown work (Contained x) start (going ms)
+pub shown-going : (work : List ℕ) (r : Walked) (x : ℕ) (start : List ℕ) (w : Walk Vertex) → r ≡ Going x → Shown work r start w
+    → (ms : List (Node Vertex)) × (w ≡ going ms) × Shown work (Going x) start (going ms)
 shown-going work r x start (going ms) e S = (ms, refl, subst (λ (q : Walked). Shown work q start (going ms)) e S)
 shown-going work r x start (ended ms n) e S =
     let q = S .answer in
@@ -67,7 +67,7 @@ module _ (A B : Automaton) (b p : ℕ) where
   -- the visits of es, from the list that work shows, make W
   abbrev pub Onward : List ℕ → ℕ → List ℕ → List (ℕ × Vertex) → Walk Vertex → Type 0
   Onward work m start es W =
-      (ms : List (Node Vertex)) × Shown work (Contained m) start (going ms)
+      (ms : List (Node Vertex)) × Shown work (Going m) start (going ms)
       × (visits (lagGraph A B b) (below (slotCount (length start))) p (going ms) es ≡ W)
 
   -- the code has made the visits of fs, the first of them
@@ -84,7 +84,7 @@ module _ (A B : Automaton) (b p : ℕ) where
         ∙ ap (visits (lagGraph A B b) (below (slotCount (length start))) p (going (O .0))) (sym first)
         ∙ O .2
 
-    pub onward-next : (x : ℕ) → r ≡ Contained x → Onward work′ x start es W
+    pub onward-next : (x : ℕ) → r ≡ Going x → Onward work′ x start es W
     onward-next x e =
         let g = shown-going work′ r x start (visits (lagGraph A B b) (below (slotCount (length start))) p (going (O .0)) fs) e after in
         (g .0, g .2, ap (λ (w : Walk Vertex). visits (lagGraph A B b) (below (slotCount (length start))) p w es) (sym (g .1)) ∙ whole)
@@ -95,9 +95,9 @@ module _ (A B : Automaton) (b p : ℕ) where
         subst (λ (x : Walk Vertex). Shown work′ r start x) (sym (stopped-visits work′ r start w es t after) ∙ whole) after
 
   pub onward-end : (work : List ℕ) (m : ℕ) (start : List ℕ) (es : List (ℕ × Vertex)) (W : Walk Vertex) → Onward work m start es W
-      → es ≡ [] → Shown work (Contained m) start W
+      → es ≡ [] → Shown work (Going m) start W
   onward-end work m start es W O e =
-      subst (λ (w : Walk Vertex). Shown work (Contained m) start w)
+      subst (λ (w : Walk Vertex). Shown work (Going m) start w)
       (ap (visits (lagGraph A B b) (below (slotCount (length start))) p (going (O .0))) (sym e) ∙ O .2) (O .1)
 
 -- The left targets, the next target first.
@@ -235,7 +235,7 @@ pub record Kept (work₀ heads₀ nexts₀ work heads nexts : List ℕ) (m : ℕ
 abbrev pub TargetsLeft : List ℕ → List ℕ → Step → ℕ → List ℕ → ℕ → List ℕ → ℕ → ℕ → Type 0
 TargetsLeft accepting transitions step p before n work m t =
     (A B : Automaton) (b : ℕ) (v : Vertex) → Side accepting transitions A → StepOf step A B b v
-    → (start : List ℕ) (ns : List (Node Vertex)) → Shown before (Contained n) start (going ns)
+    → (start : List ℕ) (ns : List (Node Vertex)) → Shown before (Going n) start (going ns)
     → Onward A B b p work m start
     (map (successor A B b v (step .letter)) (those (transitionIn transitions (step .left) (step .letter)) (A .states - t) t))
     (visits (lagGraph A B b) (below (slotCount (length start))) p (going ns)
@@ -260,7 +260,7 @@ module _ (accepting transitions : List ℕ) (step : Step) (small : step .left < 
   )
 
   module _ (work : List ℕ) (m t : ℕ) (O : TargetsLeft accepting transitions step p before n work m t) where
-    pub targets-end : maxStates ≤ t → TargetsDone accepting transitions step p before n work (Contained m)
+    pub targets-end : maxStates ≤ t → TargetsDone accepting transitions step p before n work (Going m)
     targets-end h A B b v L K start ns S =
         onward-end A B b p work m start (edgesFrom A B b v accepting transitions step L K small letter t) _ (O A B b v L K start ns S)
         (edges-end A B b v accepting transitions step L K small letter t h)
@@ -283,7 +283,7 @@ module _ (accepting transitions : List ℕ) (step : Step) (small : step .left < 
             (edgesFrom A B b v accepting transitions step L K small letter t) _ (O A B b v L K start ns S)
             (edges-next A B b v accepting transitions step L K small letter t _ h e refl) (made A B b v L K) k
 
-        pub targets-next : (x s : ℕ) → r ≡ Contained x
+        pub targets-next : (x s : ℕ) → r ≡ Going x
             → s ≡ nextFrom (transitionIn transitions (step .left) (step .letter)) (maxStates - (t + 1)) (t + 1)
             → TargetsLeft accepting transitions step p before n work′ x s
         targets-next x s q d A B b v L K start ns S =

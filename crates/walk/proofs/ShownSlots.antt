@@ -21,10 +21,10 @@ use Rattle.slots.specs.Bytes.{stored, vertexAt, letterAt, parentAt, lastBelow, 
 use Rattle.slots.proofs.SlotLayout.{slot-long, vertex-read, letter-read, parent-read, slot-passed, stored-long, stored-vertex, stored-below}
 use Rattle.slots.proofs.Chains.{last-found, last-absent}
 use Rattle.walk.specs.declared.Walked.{Walked}
-use Rattle.walk.specs.declared.Walked.the-variants.{Contained, Differs, Full}
-use Rattle.walk.specs.Discovery.{Node, Walk, going, nodesOf, node, below, listed, visit, at}
-use Rattle.walk.specs.LagGraph.{lagGraph}
-use Rattle.walk.specs.Walks.{slotsOf, workAfter}
+use Rattle.walk.specs.declared.Walked.the-variants.{Going, Ended, Full}
+use Rattle.graph.specs.Discovery.{Node, Walk, going, nodesOf, node, below, listed, visit, at}
+use Rattle.graph.specs.LagGraph.{lagGraph}
+use Rattle.graph.specs.Walks.{slotsOf, workAfter}
 use Rattle.walk.specs.Shown.{Wide, Shown, Ready}
 
 abbrev slotOf : Node Vertex → List ℕ
@@ -75,7 +75,7 @@ stored-bytes start ns m w =
     ∙ ap (λ (x : List ℕ). x ++ drop (slotSize * length (ns ++ m ∷ [])) start) (sym (slots-more ns m))
 
 -- before the first visit
-pub shown-none : (work : List ℕ) → Shown work (Contained 0) work (going [])
+pub shown-none : (work : List ℕ) → Shown work (Going 0) work (going [])
 unfolding workAfter slotsOf flatMap
 shown-none work = record { answer = refl; bytes = refl; wide = tt; room = omega arith }
 
@@ -123,7 +123,7 @@ module _ (A B : Automaton) (b : ℕ) where
       ap₂ (λ (x y : Bool). x || y) (h 0 (omega arith)) (not-listed v ns (λ i l. h (suc i) (omega arith)))
 
   -- one visit, by what the search and the tests found
-  module _ (work : List ℕ) (n : ℕ) (start : List ℕ) (ns : List (Node Vertex)) (S : Shown work (Contained n) start (going ns))
+  module _ (work : List ℕ) (n : ℕ) (start : List ℕ) (ns : List (Node Vertex)) (S : Shown work (Going n) start (going ns))
       (p a : ℕ) (v : Vertex) where
     count : n ≡ length ns
     count = let e = S .answer in cc
@@ -134,30 +134,30 @@ module _ (A B : Automaton) (b : ℕ) where
     is-listed : (i : ℕ) → lastBelow work v n ≡ At i → listed (lagGraph A B b) v ns ≡ true
     is-listed i e =
         let f = last-found work v n i e in
-        let d = slot-shown work (Contained n) start (going ns) S i (omega (arith, f .0, count)) in
+        let d = slot-shown work (Going n) start (going ns) S i (omega (arith, f .0, count)) in
         T-true (listed (lagGraph A B b) v ns) (listed-at v ns i (omega (arith, f .0, count)) (rw (d .0) at (f .1)))
 
     none-listed : lastBelow work v n ≡ Nothing → listed (lagGraph A B b) v ns ≡ false
     none-listed e =
         not-listed v ns
         (λ i h.
-        let d = slot-shown work (Contained n) start (going ns) S i h in
+        let d = slot-shown work (Going n) start (going ns) S i h in
         rw (d .0) at (last-absent work v n e i (omega (arith, count))))
 
-    pub visit-known : (i : ℕ) → lastBelow work v n ≡ At i → Shown work (Contained n) start after
+    pub visit-known : (i : ℕ) → lastBelow work v n ≡ At i → Shown work (Going n) start after
     visit-known i e = rw (is-listed i e) S
 
-    pub visit-final : lastBelow work v n ≡ Nothing → allZero (v .counters) ≡ true → Shown work (Differs n a p) start after
+    pub visit-final : lastBelow work v n ≡ Nothing → allZero (v .counters) ≡ true → Shown work (Ended n a p) start after
     unfolding workAfter
     visit-final e z =
         rw (none-listed e, z)
-        (record { answer = ap (λ (k : ℕ). Differs k a p) count; bytes = S .bytes; wide = S .wide; room = S .room })
+        (record { answer = ap (λ (k : ℕ). Ended k a p) count; bytes = S .bytes; wide = S .wide; room = S .room })
 
     pub visit-full : lastBelow work v n ≡ Nothing → allZero (v .counters) ≡ false → slotCount (length work) ≤ n
         → Shown work (Full n) start after
     unfolding workAfter
     visit-full e z h =
-        let l = shown-length work (Contained n) start (going ns) S in
+        let l = shown-length work (Going n) start (going ns) S in
         let k = S .room in
         let q : slotCount (length work) ≡ slotCount (length start) = ap slotCount l in
         let s : n ≡ slotCount (length start) = omega (arith, count) in
@@ -165,18 +165,18 @@ module _ (A B : Automaton) (b : ℕ) where
         (record { answer = ap Full s; bytes = S .bytes; wide = S .wide; room = S .room })
 
     pub visit-stored : lastBelow work v n ≡ Nothing → allZero (v .counters) ≡ false → n < slotCount (length work)
-        → length (v .counters) ≡ maxStates → Shown (stored work n v a p) (Contained (n + 1)) start after
+        → length (v .counters) ≡ maxStates → Shown (stored work n v a p) (Going (n + 1)) start after
     visit-stored e z h wide =
         rw (none-listed e, z, lt-ltb (length ns) (slotCount (length start)) (omega (arith, count, slots)))
         (record {
-          answer = ap Contained (omega (arith, count, length-append ns (node (a, v) p ∷ [])));
+          answer = ap Going (omega (arith, count, length-append ns (node (a, v) p ∷ [])));
           bytes = ap₂ (λ (x : List ℕ) (k : ℕ). stored x k v a p) (S .bytes) count ∙ stored-bytes start ns (node (a, v) p) (S .wide);
           wide = wide-more ns (node (a, v) p) (S .wide) wide;
           room = omega (arith, count, slots, length-append ns (node (a, v) p ∷ []));
         })
       where
         slots : slotCount (length work) ≡ slotCount (length start)
-        slots = ap slotCount (shown-length work (Contained n) start (going ns) S)
+        slots = ap slotCount (shown-length work (Going n) start (going ns) S)
 
 -- what the next visit needs is there again once a vertex has been stored
 pub ready-stored : (work heads nexts heads′ nexts′ : List ℕ) (n a p : ℕ) (v : Vertex) → Ready work heads nexts n

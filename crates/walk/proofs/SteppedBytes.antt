@@ -21,10 +21,10 @@ use Rattle.automaton.proofs.Ranges.{table-at, length-table, largest-ub}
 use Rattle.automaton.proofs.Tests.{same-test, and-both, both-and}
 use Rattle.automaton.proofs.Transitions.{transition-parts, parts-transition}
 use Rattle.slots.specs.declared.Vertex.{Vertex}
-use Rattle.walk.specs.LagGraph.{initialCounter, initialVertex, counter, stepped}
+use Rattle.graph.specs.LagGraph.{initialCounter, initialVertex, counter, stepped}
 use Rattle.walk.specs.declared.present.Present.{Present}
 use Rattle.walk.specs.Shown.{largestInto, counterFrom, NoneFrom, PresentOf}
-use Rattle.walk.proofs.Visits.{lt-or-le}
+use Rattle.graph.proofs.Visits.{lt-or-le}
 
 -- Bits of an automaton in range.
 

@@ -18,12 +18,12 @@ use Rattle.slots.specs.Bytes.{vertexAt}
 use Rattle.walk.specs.declared.Rules.{Rules}
 use Rattle.walk.specs.declared.Step.{Step}
 use Rattle.walk.specs.declared.Walked.{Walked}
-use Rattle.walk.specs.declared.Walked.the-variants.{Contained}
-use Rattle.walk.specs.Discovery.{Node, Walk, going, ended, full, below, visit, visits, successorsAt, turn, turns, begin}
-use Rattle.walk.specs.LagGraph.{initialVertex, successor, successors, lagGraph}
-use Rattle.walk.specs.Walks.{walkOf}
+use Rattle.walk.specs.declared.Walked.the-variants.{Going}
+use Rattle.graph.specs.Discovery.{Node, Walk, going, ended, full, below, visit, visits, successorsAt, turn, turns, begin}
+use Rattle.graph.specs.LagGraph.{initialVertex, successor, successors, lagGraph}
+use Rattle.graph.specs.Walks.{walkOf}
 use Rattle.walk.specs.Shown.{Shown, Becomes, Side, RightSide, RulesOf, Needed, StepOf}
-use Rattle.walk.proofs.Visits.{successors-in, turns-ended, turns-full, turns-past}
+use Rattle.graph.proofs.Visits.{successors-in, turns-ended, turns-full, turns-past}
 use Rattle.walk.proofs.ShownSlots.{slot-shown, shown-none}
 use Rattle.walk.proofs.Onward.{Stops, shown-going, Onward, onward-next, onward-stop, onward-end, TargetsDone, no-targets}
 
@@ -71,9 +71,9 @@ module _ (rules : Rules) (lefts masks : List ℕ) (v : Vertex) (a p : ℕ) (work
 
   -- where the left state has no target there is no successor
   pub letter-none : v .left < maxStates → a < maxLetters → nextFrom (transitionIn lefts (v .left) a) maxStates 0 ≡ maxStates
-      → LetterDone rules lefts masks v a p work m work (Contained m)
+      → LetterDone rules lefts masks v a p work m work (Going m)
   letter-none h l e A B b R start ns S =
-      subst (λ (es : List (ℕ × Vertex)). Shown work (Contained m) start
+      subst (λ (es : List (ℕ × Vertex)). Shown work (Going m) start
       (visits (lagGraph A B b) (below (slotCount (length start))) p (going ns) es))
       (sym (ap (map (successor A B b v a)) (no-targets A lefts (R .left .transitions-are) (R .left .in-range) (v .left) a h l e))) S
 
@@ -81,7 +81,7 @@ module _ (rules : Rules) (lefts masks : List ℕ) (v : Vertex) (a p : ℕ) (work
 abbrev pub LettersLeft : Rules → List ℕ → List ℕ → Vertex → ℕ → List ℕ → ℕ → List ℕ → ℕ → ℕ → Type 0
 LettersLeft rules lefts masks v p before n work m a =
     (A B : Automaton) (b : ℕ) → RulesOf rules lefts masks A B b
-    → (start : List ℕ) (ns : List (Node Vertex)) → Shown before (Contained n) start (going ns)
+    → (start : List ℕ) (ns : List (Node Vertex)) → Shown before (Going n) start (going ns)
     → Onward A B b p work m start (edgesFromLetter A B b v (rules .letters) a)
     (turn (lagGraph A B b) (below (slotCount (length start))) p (going ns))
 
@@ -100,12 +100,12 @@ module _ (rules : Rules) (lefts masks : List ℕ) (v : Vertex) (p : ℕ) (before
       edges : successorsAt (lagGraph A B b) ns p ≡ edgesFromLetter A B b v (rules .letters) 0
       edges =
           successors-in (lagGraph A B b) ns p (omega (arith, count))
-          ∙ ap (successors A B b) (sym (slot-shown A B b before (Contained n) start (going ns) S p (omega (arith, count)) .0) ∙ sym e)
+          ∙ ap (successors A B b) (sym (slot-shown A B b before (Going n) start (going ns) S p (omega (arith, count)) .0) ∙ sym e)
           ∙ edges-all A B b v
           ∙ ap (λ (k : ℕ). edgesFromLetter A B b v k 0) (sym (R .letters-are))
 
   module _ (work : List ℕ) (m a : ℕ) (O : LettersLeft rules lefts masks v p before n work m a) where
-    pub letters-end : rules .letters ≤ a → TurnDone rules lefts masks p before n work (Contained m)
+    pub letters-end : rules .letters ≤ a → TurnDone rules lefts masks p before n work (Going m)
     letters-end h A B b R start ns S =
         onward-end A B b p work m start (edgesFromLetter A B b v (rules .letters) a) _ (O A B b R start ns S)
         (edges-none A B b v (rules .letters) a h)
@@ -116,7 +116,7 @@ module _ (rules : Rules) (lefts masks : List ℕ) (v : Vertex) (p : ℕ) (before
           onward-stop A B b p work m work′ r start (edgesOn A B b v a) (edgesFromLetter A B b v (rules .letters) (a + 1))
           (edgesFromLetter A B b v (rules .letters) a) _ (O A B b R start ns S) (edges-more A B b v (rules .letters) a h) (seen A B b R) k
 
-      pub letters-next : (x : ℕ) → r ≡ Contained x → LettersLeft rules lefts masks v p before n work′ x (a + 1)
+      pub letters-next : (x : ℕ) → r ≡ Going x → LettersLeft rules lefts masks v p before n work′ x (a + 1)
       letters-next x q A B b R start ns S =
           onward-next A B b p work m work′ r start (edgesOn A B b v a) (edgesFromLetter A B b v (rules .letters) (a + 1))
           (edgesFromLetter A B b v (rules .letters) a) _ (O A B b R start ns S) (edges-more A B b v (rules .letters) a h) (seen A B b R) x q
@@ -127,8 +127,8 @@ module _ (rules : Rules) (lefts masks : List ℕ) (v : Vertex) (p : ℕ) (before
 abbrev pub TurnsLeft : Rules → List ℕ → List ℕ → List ℕ → ℕ → List ℕ → ℕ → ℕ → Type 0
 TurnsLeft rules lefts masks before n work m p =
     (A B : Automaton) (b : ℕ) → RulesOf rules lefts masks A B b
-    → (start : List ℕ) (ns : List (Node Vertex)) → Shown before (Contained n) start (going ns)
-    → (ms : List (Node Vertex)) × Shown work (Contained m) start (going ms)
+    → (start : List ℕ) (ns : List (Node Vertex)) → Shown before (Going n) start (going ns)
+    → (ms : List (Node Vertex)) × Shown work (Going m) start (going ms)
     × (turns (lagGraph A B b) (below (slotCount (length start))) (slotCount (length start) - p) p (going ms)
     ≡ turns (lagGraph A B b) (below (slotCount (length start))) (slotCount (length start)) 0 (going ns))
 
@@ -149,12 +149,12 @@ module _ (rules : Rules) (lefts masks before : List ℕ) (n : ℕ) where
   turns-start A B b R start ns S = (ns, S, rw (sub-zero (slotCount (length start))))
 
   module _ (work : List ℕ) (m p : ℕ) (O : TurnsLeft rules lefts masks before n work m p) where
-    pub turns-end : m ≤ p → TurnsDone rules lefts masks before n work (Contained m)
+    pub turns-end : m ≤ p → TurnsDone rules lefts masks before n work (Going m)
     turns-end h A B b R start ns S =
         let o = O A B b R start ns S in
         let k = slotCount (length start) in
         let count : m ≡ length (o .0) = let q = o .1 .answer in cc in
-        subst (λ (w : Walk Vertex). Shown work (Contained m) start w)
+        subst (λ (w : Walk Vertex). Shown work (Going m) start w)
         (sym (turns-past (lagGraph A B b) (below k) (k - p) p (o .0) (omega arith)) ∙ o .2) (o .1)
 
     module _ (h : p < m) (work′ : List ℕ) (r : Walked) (seen : TurnDone rules lefts masks p work m work′ r) where
@@ -164,7 +164,7 @@ module _ (rules : Rules) (lefts masks before : List ℕ) (n : ℕ) where
       one-turn A B b S w l = let q : S - p ≡ suc (S - (p + 1)) = omega arith in rw (q, add-one)
 
       module _ (A B : Automaton) (b : ℕ) (R : RulesOf rules lefts masks A B b) (start : List ℕ) (ns : List (Node Vertex))
-          (S : Shown before (Contained n) start (going ns)) where
+          (S : Shown before (Going n) start (going ns)) where
         abbrev slots : ℕ
         slots = slotCount (length start)
 
@@ -190,7 +190,7 @@ module _ (rules : Rules) (lefts masks before : List ℕ) (n : ℕ) where
           subst (λ (x : Walk Vertex). Shown work′ r start x)
           (sym (stopped-turns A B b k (k - (p + 1)) (p + 1) work′ r start w t d) ∙ whole A B b R start ns S) d
 
-      pub turns-next : (x : ℕ) → r ≡ Contained x → TurnsLeft rules lefts masks before n work′ x (p + 1)
+      pub turns-next : (x : ℕ) → r ≡ Going x → TurnsLeft rules lefts masks before n work′ x (p + 1)
       turns-next x e A B b R start ns S =
           let k = slotCount (length start) in
           let w = turn (lagGraph A B b) (below k) p (going (so-far A B b R start ns S)) in
@@ -215,7 +215,7 @@ module _ (A B : Automaton) (b : ℕ) (first : Vertex) (is-initial : first ≡ in
       subst (λ (w : Walk Vertex). Shown work′ r work w)
       (sym (stopped-turns A B b S S 0 work′ r work (begin (lagGraph A B b) (below S)) t began)) began
 
-  pub walk-on : (n : ℕ) → r ≡ Contained n → (rules : Rules) (lefts masks : List ℕ) → RulesOf rules lefts masks A B b
+  pub walk-on : (n : ℕ) → r ≡ Going n → (rules : Rules) (lefts masks : List ℕ) → RulesOf rules lefts masks A B b
       → (work″ : List ℕ) (r′ : Walked) → TurnsDone rules lefts masks work′ n work″ r′
       → Shown work″ r′ work (walkOf A B b (slotCount (length work)))
   unfolding walkOf

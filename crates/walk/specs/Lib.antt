@@ -1,5 +1,2 @@
--- The walk (01, "The walk").
-pub mod Discovery
-pub mod LagGraph
-pub mod Walks
+-- The contracts of the walk's code.
 pub mod Shown

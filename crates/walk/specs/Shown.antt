@@ -33,14 +33,14 @@ use Rattle.walk.specs.declared.Rules.{Rules}
 use Rattle.walk.specs.declared.present.Present.{Present}
 use Rattle.walk.specs.declared.Step.{Step}
 use Rattle.walk.specs.declared.Walked.{Walked}
-use Rattle.walk.specs.declared.Walked.the-variants.{Contained, Differs, Full}
-use Rattle.walk.specs.Discovery.{Node, Walk, going, ended, full, nodesOf}
-use Rattle.walk.specs.LagGraph.{stepped}
-use Rattle.walk.specs.Walks.{walkOf, workAfter, wordOf, wordAfter}
+use Rattle.walk.specs.declared.Walked.the-variants.{Going, Ended, Full}
+use Rattle.graph.specs.Discovery.{Node, Walk, going, ended, full, nodesOf}
+use Rattle.graph.specs.LagGraph.{stepped}
+use Rattle.graph.specs.Walks.{walkOf, workAfter, wordOf, wordAfter}
 
 abbrev pub walkedOf : ℕ → Walk Vertex → Walked
-walkedOf S (going ns) = Contained (length ns)
-walkedOf S (ended ns n) = Differs (length ns) (n .letter) (n .parent)
+walkedOf S (going ns) = Going (length ns)
+walkedOf S (ended ns n) = Ended (length ns) (n .letter) (n .parent)
 walkedOf S (full ns) = Full S
 
 -- the vertex of a left state and counters
@@ -61,7 +61,7 @@ pub record Shown (work : List ℕ) (r : Walked) (start : List ℕ) (w : Walk Ver
 -- `step` takes the number of slots
 abbrev pub Becomes : List ℕ → ℕ → List ℕ → Walked → (ℕ → Walk Vertex → Walk Vertex) → Type 0
 Becomes before n after r step =
-    (start : List ℕ) (ns : List (Node Vertex)) → Shown before (Contained n) start (going ns)
+    (start : List ℕ) (ns : List (Node Vertex)) → Shown before (Going n) start (going ns)
     → Shown after r start (step (slotCount (length start)) (going ns))
 
 pub record Ready (work heads nexts : List ℕ) (n : ℕ) : Type 0 where
@@ -71,8 +71,8 @@ pub record Ready (work heads nexts : List ℕ) (n : ℕ) : Type 0 where
 
 -- the list goes on: what the next visit needs is there
 abbrev pub ReadyAfter : Walked → List ℕ → List ℕ → List ℕ → Type 0
-ReadyAfter (Contained n) work heads nexts = Ready work heads nexts n
-ReadyAfter (Differs i a p) work heads nexts = Unit {0}
+ReadyAfter (Going n) work heads nexts = Ready work heads nexts n
+ReadyAfter (Ended i a p) work heads nexts = Unit {0}
 ReadyAfter (Full n) work heads nexts = Unit {0}
 
 pub record Side (accepting transitions : List ℕ) (A : Automaton) : Type 0 where

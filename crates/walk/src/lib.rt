@@ -11,9 +11,9 @@ ghost use Rattle.automaton.specs.Sets.{member, leastMembers};
 ghost use Rattle.slots.specs.declared.Vertex.{Vertex};
 ghost use Rattle.slots.specs.Slots.{slotCount};
 ghost use Rattle.slots.specs.Bytes.{countersHash};
-ghost use Rattle.walk.specs.Discovery.{below, visit as visited, visits, turn as turned, turns as turnsOf};
-ghost use Rattle.walk.specs.LagGraph.{maxBound, initialVertex, successor, lagGraph};
-ghost use Rattle.walk.specs.Walks.{walkOf, workAfter};
+ghost use Rattle.graph.specs.Discovery.{below, visit as visited, visits, turn as turned, turns as turnsOf};
+ghost use Rattle.graph.specs.LagGraph.{maxBound, initialVertex, successor, lagGraph};
+ghost use Rattle.graph.specs.Walks.{walkOf, workAfter};
 ghost use Rattle.walk.specs.Shown.{walkedOf, Becomes, Ready, ReadyAfter, Side, RightSide, RulesOf, StepOf, FoundFinal, WordRead};
 ghost use Rattle.walk.specs.Shown.{vertexOf, largestInto, counterFrom, Masks, NoneFrom, PresentOf, Needed};
 
@@ -29,8 +29,8 @@ use slots::Vertex;
 // How the discovery list stands: no final vertex among the vertices listed, with their number; the place of the final vertex
 // that ends it, with the letter and the place of the parent by which it was found; a vertex found no slot, with the slots.
 pub enum Walked {
-    Contained(usize),
-    Differs(usize, u8, usize),
+    Going(usize),
+    Ended(usize, u8, usize),
     Full(usize),
 }
 
@@ -267,11 +267,11 @@ fn visit(
     };
     let h = slots::vertex_hash(v, part);
     match slots::find(work, heads, nexts, n, v, h) {
-        Found::At(_) => Walked::Contained(n),
+        Found::At(_) => Walked::Going(n),
         Found::Nothing => {
             let tested = *counters;
             if slots::is_final(tested) {
-                return Walked::Differs(n, letter, p);
+                return Walked::Ended(n, letter, p);
             }
             if n < slots::slot_count(work.len()) {
                 let written = *counters;
@@ -280,7 +280,7 @@ fn visit(
                     counters: written,
                 };
                 slots::append(work, heads, nexts, n, u, letter, p, h);
-                Walked::Contained(n + 1)
+                Walked::Going(n + 1)
             } else {
                 Walked::Full(n)
             }
@@ -383,7 +383,7 @@ fn visit_targets(
     let letter = step.letter;
     let lowered_hash = step.lowkey;
     let others_hash = step.otherkey;
-    let targets = sets::row(transitions, left, letter);
+    let targets = relations::row(transitions, left, letter);
     let mut listed = n;
     let mut t = automaton::next_target(table, transitions, left, letter, 0);
     while t < 32 {
@@ -402,13 +402,13 @@ fn visit_targets(
             &counters,
             part,
         );
-        let Walked::Contained(m) = seen else {
+        let Walked::Going(m) = seen else {
             return seen;
         };
         listed = m;
         t = targets::target_after(table, transitions, targets, left, letter, t);
     }
-    Walked::Contained(listed)
+    Walked::Going(listed)
 }
 
 // The successors of the vertex v at place p on a letter; lefts are the left automaton's transitions, masks those of the right one.
@@ -439,15 +439,15 @@ fn visit_letter(
     ensures ready { λ r. ⌜ ReadyAfter r (now (work .exit)) (now (heads .exit)) (now (nexts .exit)) ⌝ }
 {
     if automaton::next_target(table, lefts, v.left as usize, letter, 0) == 32 {
-        return Walked::Contained(n);
+        return Walked::Going(n);
     }
     let states = rules.states;
     let top = rules.top;
     let left_accepting = rules.left;
     let right_accepting = rules.right;
-    let targets = sets::row(lefts, v.left as usize, letter);
-    let accepting = sets::of_bytes(&left_accepting);
-    let lower = sets::meets(targets, accepting);
+    let targets = relations::row(lefts, v.left as usize, letter);
+    let accepting = relations::of_bytes(&left_accepting);
+    let lower = relations::meets(targets, accepting);
     let other = targets::reach_beyond(targets, accepting);
     let step = step_on(
         &right_accepting,
@@ -516,13 +516,13 @@ fn turn(
             letter,
             table,
         );
-        let Walked::Contained(m) = seen else {
+        let Walked::Going(m) = seen else {
             return seen;
         };
         listed = m;
         letter += 1;
     }
-    Walked::Contained(listed)
+    Walked::Going(listed)
 }
 
 // The turns of all places, from place 0 on.
@@ -549,13 +549,13 @@ fn turns(
     let mut p: usize = 0;
     while p < listed {
         let seen = turn(rules, lefts, masks, work, heads, nexts, listed, p, table);
-        let Walked::Contained(m) = seen else {
+        let Walked::Going(m) = seen else {
             return seen;
         };
         listed = m;
         p += 1;
     }
-    Walked::Contained(listed)
+    Walked::Going(listed)
 }
 
 // The walk of the lag-checking graph of two automata at a bound. The slots that it takes are written from the start of work.
@@ -586,7 +586,7 @@ pub fn walk(left: Automaton, right: Automaton, bound: usize, work: &mut [u8]) ->
         &first_counters,
         part,
     );
-    let Walked::Contained(n) = seen else {
+    let Walked::Going(n) = seen else {
         return seen;
     };
     let mut masks = [0u8; 16384];

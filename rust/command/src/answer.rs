@@ -1,5 +1,7 @@
 //! What the program answers, for people and for programs.
 
+use std::path::{Path, PathBuf};
+
 use edition::{Argument, Refusal, Walk};
 
 use crate::json::Value;
@@ -10,8 +12,10 @@ pub const YES: u8 = 0;
 pub const NO: u8 = 1;
 /// One of document 01's refusals.
 pub const REFUSED: u8 = 2;
-/// Wrong use, or a file that cannot be read or written.
+/// Wrong use, a file that cannot be read or written, or an answer that cannot be written.
 pub const FAILED: u8 = 3;
+/// The STORE is replaced, and something failed after that: the folder could not be synced, or the answer could not be written.
+pub const REPLACED: u8 = 4;
 
 /// An answer: the exit status, one word for it, a text for people, and fields for programs.
 pub struct Answer {
@@ -21,6 +25,8 @@ pub struct Answer {
     /// What is said besides, on standard error, where the text is fixed.
     pub note: String,
     pub fields: Vec<(&'static str, Value)>,
+    /// The STORE that the command has replaced.
+    pub replaced: Option<PathBuf>,
 }
 
 impl Answer {
@@ -31,7 +37,14 @@ impl Answer {
             text,
             note: String::new(),
             fields: Vec::new(),
+            replaced: None,
         }
+    }
+
+    /// The answer of a command that has replaced this STORE.
+    pub fn replacing(mut self, store: &Path) -> Answer {
+        self.replaced = Some(store.into());
+        self
     }
 
     /// The answer with one more field.
@@ -62,8 +75,10 @@ impl Answer {
 pub enum Failure {
     /// Wrong arguments.
     Usage(String),
-    /// A file that cannot be read or written.
+    /// A file that cannot be read or written, or a form that the automaton does not have.
     File(String),
+    /// A STORE that is replaced, and is perhaps not on the disk.
+    Replaced(String),
     /// A refusal of the checker.
     Refused(Refusal),
 }
@@ -76,15 +91,13 @@ impl From<Refusal> for Failure {
 
 impl Failure {
     pub fn answer(self) -> Answer {
-        match self {
-            Failure::Usage(message) => {
-                Answer::new(FAILED, "usage", message.clone()).with("message", Value::Text(message))
-            }
-            Failure::File(message) => {
-                Answer::new(FAILED, "failed", message.clone()).with("message", Value::Text(message))
-            }
-            Failure::Refused(refusal) => refused(&refusal),
-        }
+        let (status, word, message) = match self {
+            Failure::Usage(message) => (FAILED, "usage", message),
+            Failure::File(message) => (FAILED, "failed", message),
+            Failure::Replaced(message) => (REPLACED, "replaced", message),
+            Failure::Refused(refusal) => return refused(&refusal),
+        };
+        Answer::new(status, word, message.clone()).with("message", Value::Text(message))
     }
 }
 

@@ -4,6 +4,7 @@ use std::ffi::{OsStr, OsString};
 use std::path::Path;
 
 use crate::answer::Failure;
+use crate::files::Source;
 
 /// The form in which the answer is wanted.
 #[derive(Clone, Copy, PartialEq, Eq)]
@@ -11,7 +12,11 @@ pub enum Form {
     Text,
     Json,
     Dot,
+    Never,
 }
+
+/// The operand that stands for standard input.
+const INPUT: &str = "-";
 
 /// The words of the command line, options taken out.
 #[derive(Default)]
@@ -19,9 +24,9 @@ pub struct Arguments {
     /// The command's name and its operands.
     pub words: Vec<OsString>,
     pub help: bool,
+    pub version: bool,
     pub slots: Option<u64>,
-    json: bool,
-    dot: bool,
+    form: Option<Form>,
 }
 
 impl Arguments {
@@ -40,19 +45,16 @@ impl Arguments {
                 _ => arguments.words.push(word),
             }
         }
-        if arguments.json && arguments.dot {
-            return Err(usage(
-                "--json and --dot ask for two forms of one answer: give one of them",
-            ));
-        }
         Ok(arguments)
     }
 
     fn option(&mut self, option: &str) -> Result<(), Failure> {
         match option {
-            "--json" => self.json = true,
-            "--dot" => self.dot = true,
+            "--json" => self.ask(Form::Json)?,
+            "--dot" => self.ask(Form::Dot)?,
+            "--never" => self.ask(Form::Never)?,
             "--help" | "-h" => self.help = true,
+            "--version" => self.version = true,
             _ => match option.strip_prefix("--slots=") {
                 Some(value) => self.slots = Some(number("--slots", OsStr::new(value))?),
                 None => return Err(usage(&format!("there is no option {option}"))),
@@ -61,12 +63,17 @@ impl Arguments {
         Ok(())
     }
 
-    pub fn form(&self) -> Form {
-        match (self.json, self.dot) {
-            (true, _) => Form::Json,
-            (_, true) => Form::Dot,
-            _ => Form::Text,
+    fn ask(&mut self, form: Form) -> Result<(), Failure> {
+        match self.form.replace(form) {
+            Some(other) if other != form => Err(usage(
+                "--json, --dot and --never ask for different forms of one answer: give one of them",
+            )),
+            _ => Ok(()),
         }
+    }
+
+    pub fn form(&self) -> Form {
+        self.form.unwrap_or(Form::Text)
     }
 
     /// The command's name.
@@ -82,6 +89,19 @@ impl Arguments {
     /// The operand as a path.
     pub fn path(&self, place: usize) -> &Path {
         Path::new(self.operand(place))
+    }
+
+    /// Whether the operand stands for standard input.
+    pub fn is_input(&self, place: usize) -> bool {
+        self.operand(place) == INPUT
+    }
+
+    /// The operand as an automaton file.
+    pub fn source(&self, place: usize) -> Source<'_> {
+        match self.is_input(place) {
+            true => Source::Input,
+            false => Source::File(self.path(place)),
+        }
     }
 
     /// The operand as a bound.

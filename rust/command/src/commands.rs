@@ -1,24 +1,25 @@
 //! The commands: each reads its files, asks the kernel, and gives an answer.
 
+use edition::lag::Graph;
 use edition::slots::{self, Slot};
 use edition::{Automaton, Buffers, Entry, Held, Offer, Outcome, Refusal, MAX_SLOTS};
 
 use crate::answer::{spelled, Answer, Failure, NO, YES};
 use crate::arguments::{Arguments, Form};
-use crate::graph::{self, Pair};
 use crate::json::Value;
 use crate::store::Store;
-use crate::{dot, files, listing};
+use crate::{dot, listing, never};
 
 /// `listing FIRST OFFER BOUND`.
 pub fn list(arguments: &Arguments) -> Result<Answer, Failure> {
-    listing::answer(arguments.path(1), arguments.path(2), arguments.bound(3)?)
+    let bound = arguments.bound(3)?;
+    listing::answer([arguments.source(1), arguments.source(2)], bound)
 }
 
 /// `contain FIRST SECOND BOUND`.
 pub fn contain(arguments: &Arguments) -> Result<Answer, Failure> {
     let bound = arguments.bound(3)?;
-    let (first, second) = (files::whole(arguments.path(1))?, files::whole(arguments.path(2))?);
+    let (first, second) = (arguments.source(1).whole()?, arguments.source(2).whole()?);
     let slots = arguments
         .slots
         .map_or(MAX_SLOTS, |slots| slots.min(MAX_SLOTS as u64) as usize);
@@ -43,20 +44,15 @@ pub fn contain(arguments: &Arguments) -> Result<Answer, Failure> {
 /// The picture of a walk that the kernel has made; so the bound is at most 14.
 fn walk_picture(files: [&[u8]; 2], bound: u8, slots: &[Slot], word: Option<&[u8]>) -> Result<String, Failure> {
     let (left, right) = (Automaton::from_file(files[0])?, Automaton::from_file(files[1])?);
-    let pair = Pair {
-        left: &left,
-        right: &right,
-        bound,
-    };
-    let graph = graph::of_walk(&pair, slots, word)
+    let graph = Graph::of_walk([&left, &right], bound, slots, word)
         .ok_or_else(|| Failure::File("no picture: its edges do not fit the kernel's walk".into()))?;
     Ok(dot::graph(&graph, right.states()))
 }
 
 /// `open STORE FILE`.
 pub fn open(arguments: &Arguments) -> Result<Answer, Failure> {
-    let file = files::whole(arguments.path(2))?;
-    let store = Store::at(arguments.path(1))?.lock()?;
+    let file = arguments.source(2).whole()?;
+    let store = Store::at(arguments.path(1))?.lock_or_make()?;
     let mut entry = store.entry_or_fresh()?;
     entry.open(&file)?;
     store.replace(&entry)?;
@@ -64,35 +60,36 @@ pub fn open(arguments: &Arguments) -> Result<Answer, Failure> {
     let text = format!("opened: edition {}, {} states", held.edition, held.automaton.states());
     Ok(Answer::new(YES, "opened", text)
         .number("edition", held.edition)
-        .number("states", held.automaton.states()))
+        .number("states", held.automaton.states())
+        .replacing(arguments.path(1)))
 }
 
 /// `offer STORE FILE BOUND`.
 pub fn offer(arguments: &Arguments) -> Result<Answer, Failure> {
     let bound = arguments.bound(3)?;
-    let file = files::whole(arguments.path(2))?;
+    let file = arguments.source(2).whole()?;
     let store = Store::at(arguments.path(1))?.lock()?;
     let mut entry = store.entry()?;
     let mut buffers = Buffers::largest();
     match buffers.offer(&mut entry, &file, bound)? {
         Offer::Taken { forward, back } => {
             store.replace(&entry)?;
-            taken(&held(&entry)?, forward, back)
+            Ok(taken(&held(&entry)?, forward, back).replacing(arguments.path(1)))
         }
         Offer::Forward { forward, word } => Ok(turned_down("forward", (forward, None), word)),
         Offer::Back { forward, back, word } => Ok(turned_down("back", (forward, Some(back)), word)),
     }
 }
 
-fn taken(held: &Held, forward: u16, back: u16) -> Result<Answer, Failure> {
+fn taken(held: &Held, forward: u16, back: u16) -> Answer {
     let (edition, states, first) = (held.edition, held.automaton.states(), held.first_states);
     let text = format!("taken: edition {edition}, states {states} of {first}, walks {forward} {back}");
-    Ok(Answer::new(YES, "taken", text)
+    Answer::new(YES, "taken", text)
         .number("edition", edition)
         .number("states", states)
         .number("first_states", first)
         .number("forward", forward)
-        .number("back", back))
+        .number("back", back)
 }
 
 /// The answer of an offer that is not taken: the walk that found a word, the walks' counts, the word.
@@ -127,65 +124,52 @@ pub fn verdict(arguments: &Arguments) -> Result<Answer, Failure> {
     })
 }
 
-/// `show FILE|STORE`.
+/// `show FILE|STORE`. What comes from standard input is an automaton file.
 pub fn show(arguments: &Arguments) -> Result<Answer, Failure> {
-    let bytes = files::whole(arguments.path(1))?;
-    let draw = arguments.form() == Form::Dot;
-    if !is_store(&bytes) {
+    let (bytes, form) = (arguments.source(1).whole()?, arguments.form());
+    if arguments.is_input(1) || !Entry::is_meant(&bytes) {
         let automaton = Automaton::from_file(&bytes)?;
         let answer = Answer::new(YES, "automaton", described(&automaton));
-        return Ok(shown(answer, &automaton, draw));
+        return shown(answer, &automaton, form);
     }
     match Entry::from_bytes(&bytes)?.held() {
-        None if draw => Err(Failure::Refused(Refusal::Empty)),
+        None if matches!(form, Form::Dot | Form::Never) => Err(Failure::Refused(Refusal::Empty)),
         None => Ok(Answer::new(YES, "empty", "entry: empty".into())),
-        Some(Held {
-            edition,
-            first_states,
-            automaton,
-        }) => {
-            let text = format!(
-                "entry: edition {edition}, first edition of {first_states} states\n{}",
-                described(&automaton)
-            );
+        Some(held) => {
+            let Held {
+                edition, first_states, ..
+            } = held;
+            let automaton = described(&held.automaton);
+            let text = format!("entry: edition {edition}, first edition of {first_states} states\n{automaton}");
             let answer = Answer::new(YES, "entry", text)
                 .number("edition", edition)
                 .number("first_states", first_states);
-            Ok(shown(answer, &automaton, draw))
+            shown(answer, &held.automaton, form)
         }
     }
 }
 
-/// Whether the bytes are to be shown as a STORE: they begin as one does, or have its length and do not begin as an automaton file.
-fn is_store(bytes: &[u8]) -> bool {
-    match bytes.first() {
-        Some(0 | 1) => true,
-        Some(b'A') | None => false,
-        Some(_) => bytes.len() == edition::ENTRY_BYTES,
-    }
-}
-
-/// The answer with the automaton's fields, or its picture.
-fn shown(mut answer: Answer, automaton: &Automaton, draw: bool) -> Answer {
-    if draw {
-        answer.text = dot::automaton(automaton);
+/// The answer with the automaton's fields; where another form is asked for, that is its text.
+fn shown(mut answer: Answer, automaton: &Automaton, form: Form) -> Result<Answer, Failure> {
+    match form {
+        Form::Dot => answer.text = dot::automaton(automaton),
+        Form::Never => answer.text = never::claim(automaton)?,
+        Form::Text | Form::Json => (),
     }
     let transitions = automaton
         .transitions()
         .map(|(from, letter, to)| Value::numbers(&[from, letter, to]));
-    answer
+    Ok(answer
         .number("states", automaton.states())
         .number("letters", automaton.letters())
         .number("initial", automaton.initial())
         .with("accepting", Value::numbers(&accepting(automaton)))
         .with("dead", Value::numbers(&automaton.dead_states()))
-        .with("transitions", Value::List(transitions.collect()))
+        .with("transitions", Value::List(transitions.collect())))
 }
 
 fn accepting(automaton: &Automaton) -> Vec<u8> {
-    (0..automaton.states())
-        .filter(|&state| automaton.accepts(state))
-        .collect()
+    automaton.accepting().collect()
 }
 
 /// The automaton in words, a line for each transition.

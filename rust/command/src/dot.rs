@@ -3,9 +3,8 @@
 use std::collections::{BTreeMap, HashSet};
 use std::fmt::Write;
 
+use edition::lag::{Edge, Graph, Vertex};
 use edition::Automaton;
-
-use crate::graph::{Edge, Graph, Vertex};
 
 /// An automaton: accepting states doubled, dead states dashed and grey, an arrow to the initial state.
 pub fn automaton(automaton: &Automaton) -> String {

@@ -4,12 +4,19 @@ use crate::answer::{Answer, Failure};
 use crate::arguments::Arguments;
 use crate::commands;
 
+/// The operand that names the file of an entry.
+pub const STORE: &str = "STORE";
+
+/// The operands that name no file.
+pub const NO_FILES: [&str; 3] = ["BOUND", "STEM", "LOOP"];
+
 /// A command of the program.
 pub struct Command {
     pub name: &'static str,
     pub operands: &'static [&'static str],
     pub slots: bool,
     pub dot: bool,
+    pub never: bool,
     about: &'static str,
     examples: &'static str,
     pub run: fn(&Arguments) -> Result<Answer, Failure>,
@@ -19,7 +26,11 @@ impl Command {
     /// The command with its operands and options.
     pub fn usage(&self) -> String {
         let slots = if self.slots { " [--slots N]" } else { "" };
-        let forms = if self.dot { " [--json | --dot]" } else { " [--json]" };
+        let forms = match (self.dot, self.never) {
+            (_, true) => " [--json | --dot | --never]",
+            (true, _) => " [--json | --dot]",
+            _ => " [--json]",
+        };
         format!("edition {} {}{slots}{forms}", self.name, self.operands.join(" "))
     }
 
@@ -42,22 +53,24 @@ pub fn all() -> String {
         .collect();
     let examples: Vec<&str> = COMMANDS.iter().map(|command| command.examples).collect();
     format!(
-        "Asks the proved Büchi edition checker.\n\nusage:\n{}\n\n{OPERANDS}\n\n{STATUS}\n\nexamples:\n{}\n\n\
-         edition COMMAND --help says more of a command.",
+        "Asks the proved Büchi edition checker.\n\nusage:\n{}\n  edition --version\n\n{OPERANDS}\n\n{STATUS}\n\n\
+         examples:\n{}\n\nedition COMMAND --help says more of a command.",
         usages.join("\n"),
         examples.join("\n")
     )
 }
 
 const OPERANDS: &str = "\
-FIRST, SECOND, OFFER and FILE are automaton files; a STORE is a file that holds one entry.
+FIRST, SECOND, OFFER and FILE are automaton files, of at most 1,048,576 bytes (the longest well-formed one has 82,023; with
+listing at most 65,536); - is standard input, once. A STORE is a file that holds one entry.
 BOUND is a number from 0 to 14. STEM and LOOP are letters with commas between them, such as 0,1,1; '' is the empty stem.
---json gives the answer as a JSON object, wrong use included; --dot gives a picture in Graphviz's language;
-words after -- are no options.";
+--json gives the answer as a JSON object, wrong use included; --dot gives a picture in Graphviz's language, --never a never
+claim in SPIN's; words after -- are no options.";
 
 const STATUS: &str = "\
 exit status: 0 contained, taken, opened, yes, shown; 1 differs, forward, back, no; 2 refused, with the number and what to do;
-3 wrong use, or a file that cannot be read or written.";
+3 wrong use, or a file or an answer that cannot be read or written; 4 the STORE is replaced, but the answer cannot be written, or
+a power cut may bring the old entry back.";
 
 pub const COMMANDS: [Command; 6] = [
     Command {
@@ -65,6 +78,7 @@ pub const COMMANDS: [Command; 6] = [
         operands: &["FIRST", "OFFER", "BOUND"],
         slots: false,
         dot: false,
+        never: false,
         about: "Opens a fresh entry with FIRST, offers it OFFER and prints the proved program's line: the outcome, the edition, the\n\
                 held and the first states, the percent saved, the two walks' counts and the word. Stores nothing.",
         examples: "  ./edition listing examples/f.ba examples/g.ba 1",
@@ -75,6 +89,7 @@ pub const COMMANDS: [Command; 6] = [
         operands: &["FIRST", "SECOND", "BOUND"],
         slots: true,
         dot: true,
+        never: false,
         about: "Says whether every run prefix of FIRST has one of SECOND on the same word with lag at most BOUND: contained, with the\n\
                 number of vertices walked, or differs, with the place of the final vertex and a word that shows it. The walk has N\n\
                 slots, at most 4,096. --dot draws the lag-checking graph, with the path to the final vertex in red.",
@@ -84,18 +99,20 @@ pub const COMMANDS: [Command; 6] = [
     },
     Command {
         name: "open",
-        operands: &["STORE", "FILE"],
+        operands: &[STORE, "FILE"],
         slots: false,
         dot: false,
+        never: false,
         about: "Makes FILE the first edition of the entry in STORE. A STORE that does not exist is made.",
         examples: "  ./edition open entry.store examples/f.ba",
         run: commands::open,
     },
     Command {
         name: "offer",
-        operands: &["STORE", "FILE", "BOUND"],
+        operands: &[STORE, "FILE", "BOUND"],
         slots: false,
         dot: false,
+        never: false,
         about: "Offers FILE as a smaller edition of the entry in STORE: taken, or forward or back with the word that shows why not.\n\
                 STORE changes only if the offer is taken, and then whole: a kill or another offer at the same time loses nothing.",
         examples: "  ./edition offer entry.store examples/g.ba 1",
@@ -103,9 +120,10 @@ pub const COMMANDS: [Command; 6] = [
     },
     Command {
         name: "verdict",
-        operands: &["STORE", "STEM", "LOOP"],
+        operands: &[STORE, "STEM", "LOOP"],
         slots: false,
         dot: false,
+        never: false,
         about: "Says whether the automaton in STORE accepts the letters of STEM followed by those of LOOP without end.",
         examples: "  ./edition verdict entry.store '' 0,1\n  ./edition verdict entry.store 1 0",
         run: commands::verdict,
@@ -115,8 +133,12 @@ pub const COMMANDS: [Command; 6] = [
         operands: &["FILE|STORE"],
         slots: false,
         dot: true,
-        about: "Shows the automaton in a file, dead states marked, or the entry in a STORE. --dot draws the automaton.",
-        examples: "  ./edition show examples/g.ba\n  ./edition show entry.store --dot | dot -Tsvg > entry.svg",
+        never: true,
+        about: "Shows the automaton in a file, dead states marked, or the entry in a STORE. --dot draws the automaton. --never prints it\n\
+                as a never claim for SPIN, over the propositions p0, p1 and so on: p0 holds in the letters whose lowest bit is 1, p1\n\
+                goes by the next bit. So the number of letters is 1, 2, 4, 8 or 16.",
+        examples: "  ./edition show examples/g.ba\n  ./edition show entry.store --dot | dot -Tsvg > entry.svg\n  \
+                   ./edition show examples/response.ba --never > response.pml",
         run: commands::show,
     },
 ];

@@ -6,30 +6,38 @@ use std::io::{self, Write};
 use std::path::{Path, PathBuf};
 use std::process::{self, Command, Stdio};
 
+use edition::slots::SLOT_BYTES;
 use edition::Refusal;
 
 use crate::answer::{advised, refused, Answer, Failure, FAILED, NO, YES};
-use crate::files::front;
+use crate::files::Source;
 use crate::json::Value;
 
 /// The program reads this much of a file at most, one byte more than it accepts.
 const READ: u64 = 65537;
 
 /// The slots of the program's work buffer of 65,520 bytes.
-const SLOTS: u16 = 65520 / 40;
+const SLOTS: u16 = (65520 / SLOT_BYTES) as u16;
 
 /// The program's answer on the two files and the bound.
-pub fn answer(first: &Path, offer: &Path, bound: u64) -> Result<Answer, Failure> {
-    let files = [front(first, READ)?, front(offer, READ)?];
-    let program = env::var_os("EDITION_LISTING")
-        .ok_or_else(|| Failure::File("EDITION_LISTING does not name the program listing: run ./edition".into()))?;
-    let line = run(Path::new(&program), &files, bound)
-        .map_err(|error| Failure::File(format!("cannot run {}: {error}", program.to_string_lossy())))?;
+pub fn answer([first, offer]: [Source; 2], bound: u64) -> Result<Answer, Failure> {
+    let files = [first.front(READ)?, offer.front(READ)?];
+    let program = program().map_err(|error| Failure::File(format!("cannot find the program listing: {error}")))?;
+    let line = run(&program, &files, bound)
+        .map_err(|error| Failure::File(format!("cannot run {}: {error}", program.display())))?;
     read_line(line.trim_end())
         .ok_or_else(|| Failure::File(format!("the program listing printed '{}'", line.trim_end())))
 }
 
-/// What the program prints in a folder of its own, with the bound as the one byte of its input.
+/// The program: the one that EDITION_LISTING names, or the one that is installed beside this program.
+fn program() -> io::Result<PathBuf> {
+    match env::var_os("EDITION_LISTING") {
+        Some(path) => Ok(path.into()),
+        None => env::current_exe().map(|own| own.with_file_name("listing")),
+    }
+}
+
+/// What the program prints in a folder of its own; its input is one byte, the bound.
 ///
 /// A bound above 255 stands as 255: every bound above 14 is answered alike.
 fn run(program: &Path, [first, offer]: &[Vec<u8>; 2], bound: u64) -> io::Result<String> {

@@ -7,10 +7,10 @@ mod arguments;
 mod commands;
 mod dot;
 mod files;
-mod graph;
 mod help;
 mod json;
 mod listing;
+mod never;
 mod store;
 
 use std::env;
@@ -18,9 +18,9 @@ use std::ffi::OsString;
 use std::io::{self, Write};
 use std::process::ExitCode;
 
-use answer::{Answer, Failure, FAILED, REFUSED, YES};
+use answer::{Answer, Failure, FAILED, REFUSED, REPLACED, YES};
 use arguments::{asks_json, usage, Arguments, Form};
-use help::{Command, COMMANDS};
+use help::{Command, COMMANDS, NO_FILES, STORE};
 
 fn main() -> ExitCode {
     let line: Vec<OsString> = env::args_os().skip(1).collect();
@@ -34,19 +34,33 @@ fn main() -> ExitCode {
         Err(failure) => (None, if json { Form::Json } else { Form::Text }, Err(failure)),
     };
     let answer = result.unwrap_or_else(Failure::answer);
-    let status = answer.status;
-    match print(answer, name.as_deref(), form) {
-        Ok(()) => ExitCode::from(status),
-        Err(error) => {
-            // Where standard error cannot be written either, the status alone says it.
-            let _ = writeln!(io::stderr(), "cannot write the answer: {error}");
-            ExitCode::from(FAILED)
-        }
+    let (status, untold) = (answer.status, untold(&answer));
+    let Err(error) = print(answer, name.as_deref(), form) else {
+        return ExitCode::from(status);
+    };
+    let (status, done) = untold;
+    // Where standard error cannot be written either, the status alone says it.
+    let _ = writeln!(io::stderr(), "{done}cannot write the answer: {error}");
+    ExitCode::from(status)
+}
+
+/// The status, and what is said first, where the answer cannot be written.
+fn untold(answer: &Answer) -> (u8, String) {
+    match &answer.replaced {
+        Some(store) => (
+            REPLACED,
+            format!("{} is replaced ({}), but ", store.display(), answer.text),
+        ),
+        None if answer.status == REPLACED => (REPLACED, format!("{}; besides, ", answer.text)),
+        None => (FAILED, String::new()),
     }
 }
 
 /// The answer of the command that the arguments name.
 fn answered(arguments: &Arguments) -> Result<Answer, Failure> {
+    if arguments.version {
+        return Ok(version());
+    }
     let Some(name) = arguments.words.first() else {
         return if arguments.help {
             Ok(helped(help::all()))
@@ -72,7 +86,12 @@ fn helped(text: String) -> Answer {
     Answer::new(YES, "help", text.clone()).with("text", json::Value::Text(text))
 }
 
-/// What is wrong with the number of operands or with the options, if anything.
+fn version() -> Answer {
+    let text = format!("edition {}", edition::VERSION);
+    Answer::new(YES, "version", text).with("version", json::Value::Text(edition::VERSION.into()))
+}
+
+/// What is wrong with the number of operands, with standard input as one or with the options, if anything.
 fn check(command: &Command, arguments: &Arguments) -> Result<(), String> {
     let (given, wanted) = (arguments.words.len() - 1, command.operands.len());
     if given != wanted {
@@ -84,15 +103,33 @@ fn check(command: &Command, arguments: &Arguments) -> Result<(), String> {
     if arguments.form() == Form::Dot && !command.dot {
         return Err(format!("{} draws no picture", command.name));
     }
-    Ok(())
+    if arguments.form() == Form::Never && !command.never {
+        return Err(format!("{} prints no never claim", command.name));
+    }
+    check_input(command, arguments)
 }
 
-/// Prints the answer. For people, wrong use goes to standard error, and so does a refusal where a picture was asked for.
+/// What is wrong with standard input as a file, if anything: it is read once, and replaces no STORE.
+fn check_input(command: &Command, arguments: &Arguments) -> Result<(), String> {
+    let named = (1..).zip(command.operands);
+    let files = named.filter(|(_, name)| !NO_FILES.contains(name));
+    let input: Vec<&str> = files
+        .filter_map(|(place, &name)| arguments.is_input(place).then_some(name))
+        .collect();
+    match input[..] {
+        [STORE, ..] => Err("STORE is the name of a file, and - is standard input; ./- is a file of that name".into()),
+        [_, _, ..] => Err("standard input is read once: give one - only".into()),
+        _ => Ok(()),
+    }
+}
+
+/// Prints the answer. For people, what failed goes to standard error, and so does a refusal where another form was asked for.
 fn print(answer: Answer, command: Option<&str>, form: Form) -> io::Result<()> {
     if form == Form::Json {
         return writeln!(io::stdout(), "{}", answer.json(command));
     }
-    let aside = answer.word == "usage" || answer.word == "failed" || (form == Form::Dot && answer.status == REFUSED);
+    let failed = matches!(answer.word, "usage" | "failed" | "replaced");
+    let aside = failed || (form != Form::Text && answer.status == REFUSED);
     if !answer.note.is_empty() {
         writeln!(io::stderr(), "{}", answer.note)?;
     }

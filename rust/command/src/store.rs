@@ -1,19 +1,20 @@
 //! A STORE: a file that holds one entry, and that is replaced whole or not at all.
 //!
-//! Beside it stand two files. NAME.lock is locked by whoever is about to replace the STORE, and never removed: the STORE itself is
-//! another file after each replacement, so a lock on it would not last. NAME.unfinished has the entry that is being written; it
+//! Beside it stand two files. NAME.lock is locked by whoever is about to replace the STORE, and stays as long as there is a STORE: that
+//! is another file after each replacement, so a lock on it would not last. NAME.unfinished has the entry that is being written; it
 //! becomes the STORE by renaming, once its bytes are on the disk. If a run is killed before that, the STORE is as it was, and
 //! the next run writes NAME.unfinished again.
 
 use std::ffi::OsStr;
 use std::fs::{self, File, OpenOptions};
 use std::io::{self, ErrorKind, Write};
+use std::os::unix::fs::MetadataExt;
 use std::path::{Path, PathBuf};
 
 use edition::{Entry, ENTRY_BYTES};
 
 use crate::answer::Failure;
-use crate::files::{failed, front};
+use crate::files::{failed, Source};
 
 const LOCK: &str = "lock";
 const UNFINISHED: &str = "unfinished";
@@ -51,19 +52,42 @@ impl Store {
 
     /// The entry in the STORE. Malformed bytes are refused with 9.
     pub fn entry(&self) -> Result<Entry, Failure> {
-        Ok(Entry::from_bytes(&front(&self.path, ENTRY_BYTES as u64 + 1)?)?)
+        let bytes = Source::File(&self.path).front(ENTRY_BYTES as u64 + 1)?;
+        Ok(Entry::from_bytes(&bytes)?)
     }
 
-    /// Waits until no other run is about to replace the STORE.
+    /// Waits until no other run is about to replace the STORE. What is no STORE gets no lock beside it.
     pub fn lock(self) -> Result<Locked, Failure> {
+        self.entry()?;
+        self.locked()
+    }
+
+    /// As `lock`, for a STORE that may have to be made.
+    pub fn lock_or_make(self) -> Result<Locked, Failure> {
+        match self.is_there()? {
+            true => self.lock(),
+            false => self.locked(),
+        }
+    }
+
+    fn is_there(&self) -> Result<bool, Failure> {
+        let there = self.path.try_exists();
+        there.map_err(|error| failed("read", &self.path, &error))
+    }
+
+    fn locked(self) -> Result<Locked, Failure> {
         let path = self.beside(LOCK);
-        let open = OpenOptions::new().create(true).truncate(false).write(true).open(&path);
-        let lock = open.map_err(|error| failed("open", &path, &error))?;
-        lock.lock().map_err(|error| failed("lock", &path, &error))?;
-        Ok(Locked {
-            store: self,
-            _lock: lock,
-        })
+        loop {
+            let open = OpenOptions::new().create(true).truncate(false).write(true).open(&path);
+            let lock = open.map_err(|error| failed("open", &path, &error))?;
+            lock.lock().map_err(|error| failed("lock", &path, &error))?;
+            if is_file_at(&lock, &path).map_err(|error| failed("read", &path, &error))? {
+                return Ok(Locked {
+                    store: self,
+                    _lock: lock,
+                });
+            }
+        }
     }
 
     /// The path of the file beside the STORE with this ending.
@@ -83,26 +107,30 @@ impl Locked {
 
     /// The entry in the STORE, or a fresh one where there is no STORE.
     pub fn entry_or_fresh(&self) -> Result<Entry, Failure> {
-        let path = &self.store.path;
-        match path.try_exists() {
-            Ok(true) => self.entry(),
-            Ok(false) => Ok(Entry::fresh()),
-            Err(error) => Err(failed("read", path, &error)),
+        match self.store.is_there()? {
+            true => self.entry(),
+            false => Ok(Entry::fresh()),
         }
     }
 
     /// Replaces the STORE.
     pub fn replace(&self, entry: &Entry) -> Result<(), Failure> {
         let (path, unfinished) = (&self.store.path, self.store.beside(UNFINISHED));
-        self.write(&unfinished, entry)
-            .map_err(|error| failed("write", &unfinished, &error))?;
-        fs::rename(&unfinished, path).map_err(|error| failed("replace", path, &error))?;
+        let written = self
+            .write(&unfinished, entry)
+            .map_err(|error| failed("write", &unfinished, &error));
+        let renamed =
+            written.and_then(|()| fs::rename(&unfinished, path).map_err(|error| failed("replace", path, &error)));
+        renamed.inspect_err(|_| {
+            // What cannot be removed here is removed by the next run that writes.
+            let _ = fs::remove_file(&unfinished);
+        })?;
         self.sync_folder().map_err(|error| {
             let message = format!(
                 "{} is replaced, but may be as before after a power cut: {error}",
                 path.display()
             );
-            Failure::File(message)
+            Failure::Replaced(message)
         })
     }
 
@@ -127,5 +155,25 @@ impl Locked {
             _ => Path::new("."),
         };
         File::open(folder)?.sync_all()
+    }
+}
+
+impl Drop for Locked {
+    /// Where there is no STORE, there is no lock beside it. This run still holds the lock, and who waits for it makes another.
+    fn drop(&mut self) {
+        if self.store.is_there().is_ok_and(|there| !there) {
+            // A lock that stays behind does no harm.
+            let _ = fs::remove_file(self.store.beside(LOCK));
+        }
+    }
+}
+
+/// Whether the open file is still the one of this name: a run that makes no STORE removes its lock while others may wait for it.
+fn is_file_at(file: &File, path: &Path) -> io::Result<bool> {
+    let held = file.metadata()?;
+    match fs::metadata(path) {
+        Ok(named) => Ok((held.dev(), held.ino()) == (named.dev(), named.ino())),
+        Err(error) if error.kind() == ErrorKind::NotFound => Ok(false),
+        Err(error) => Err(error),
     }
 }

@@ -119,6 +119,25 @@ impl Plain {
         self.restricted(&order)
     }
 
+    /// With states behind it that no run reaches, up to this number.
+    pub fn padded(&self, states: usize) -> Plain {
+        let mut plain = self.clone();
+        plain.states = states;
+        plain.rows.resize(states * self.letters, 0);
+        plain
+    }
+
+    /// With this many letters that no transition uses before its own.
+    pub fn behind_letters(&self, unused: usize) -> Plain {
+        let mut plain = Plain::bare(self.states, self.letters + unused, self.initial);
+        plain.accepting = self.accepting;
+        for (row, targets) in self.rows.iter().enumerate() {
+            let (state, letter) = (row / self.letters, row % self.letters);
+            plain.rows[state * plain.letters + unused + letter] = *targets;
+        }
+        plain
+    }
+
     /// Without its dead states. If the initial state is dead it is first made accepting, with a loop.
     pub fn trimmed(&self) -> Plain {
         let mut plain = self.clone();
@@ -336,6 +355,57 @@ pub fn window(length: usize) -> Plain {
     }
     let all: Vec<usize> = (0..=length).collect();
     Plain::of(length + 1, 2, &all, &transitions)
+}
+
+/// How the runs of [`left_rings`] and [`right_rings`] begin, and what their accepting states do on letter 1.
+#[derive(Clone, Copy, Debug, PartialEq, Eq)]
+pub enum Start {
+    /// Outside the right rings, or in the left ring; the accepting states loop.
+    Apart,
+    /// In the accepting states, which lead into the rings.
+    Again,
+}
+
+/// A ring of this length on letter 1; from its last state letter 0 leads to an accepting state.
+pub fn left_rings(start: Start, ring: usize) -> Plain {
+    let accepts = ring;
+    let onward = match start {
+        Start::Apart => accepts,
+        Start::Again => 0,
+    };
+    let mut transitions = vec![(ring - 1, 0, accepts), (accepts, 0, accepts), (accepts, 1, onward)];
+    transitions.extend((0..ring).map(|state| (state, 1, (state + 1) % ring)));
+    let mut plain = Plain::of(ring + 1, 2, &[accepts], &transitions);
+    if start == Start::Again {
+        plain.initial = accepts;
+    }
+    plain
+}
+
+/// Rings of these lengths side by side on letter 1; letter 0 leads from them to an accepting state. If `stays`, one state of each
+/// ring lacks letter 0, and then the walk of [`left_rings`] in it at bound 0 gives a word. Where no two lengths have a common
+/// divisor, it goes once round all rings: it has as many letters as the product of the lengths, and one more for `Again`.
+pub fn right_rings(start: Start, rings: &[usize], stays: bool) -> Plain {
+    let accepts = rings.iter().sum();
+    let (begins, kept) = match start {
+        Start::Apart => (accepts + 1, 2),
+        Start::Again => (accepts, 1),
+    };
+    let mut transitions = vec![(accepts, 0, accepts), (begins, 0, accepts)];
+    if start == Start::Apart {
+        transitions.push((accepts, 1, accepts));
+    }
+    let mut first = 0;
+    for &ring in rings {
+        transitions.push((begins, 1, first));
+        transitions.extend((0..ring).map(|place| (first + place, 1, first + (place + 1) % ring)));
+        let leaving = (0..ring).filter(|place| !stays || place + kept != ring);
+        transitions.extend(leaving.map(|place| (first + place, 0, accepts)));
+        first += ring;
+    }
+    let mut plain = Plain::of(begins + 1, 2, &[accepts], &transitions);
+    plain.initial = begins;
+    plain
 }
 
 /// Spoils a file a little.

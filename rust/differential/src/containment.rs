@@ -3,7 +3,9 @@
 use edition::archive;
 use second::walk::{MAX_SLOTS, SLOT_BYTES};
 
-use crate::automata::{damaged, draw_letters, draw_states, everything, ring, window, worked, Plain};
+use crate::automata::{
+    damaged, draw_letters, draw_states, everything, left_rings, right_rings, ring, window, worked, Plain, Start,
+};
 use crate::buffer::Buffer;
 use crate::random::Random;
 use crate::tally::Tally;
@@ -255,6 +257,52 @@ fn slow_pair(random: &mut Random) -> [Plain; 2] {
     let all = u32::MAX >> (32 - right.states);
     right.accepting = all & !(1 << random.below(right.states));
     [left, right]
+}
+
+/// The left ring of the longest walks.
+const LEFT_RING: usize = 13;
+
+/// The right rings of the longest walks.
+const RIGHT_RINGS: [usize; 3] = [5, 7, 9];
+
+/// Rings that come round after 4,095 letters; with a state that stays in each right ring they have a word.
+pub fn rings(start: Start, stays: bool) -> [Plain; 2] {
+    [left_rings(start, LEFT_RING), right_rings(start, &RIGHT_RINGS, stays)]
+}
+
+/// Compares a pair at bound 0 whose number is known.
+fn compare_known(random: &mut Random, tally: &mut Tally, pair: &[Plain; 2], lengths: [usize; 2], expected: u64) {
+    let files = pair.each_ref().map(Plain::file);
+    let files = [files[0].as_slice(), files[1].as_slice()];
+    let found = compare(random, tally, "rings", files, 0, lengths);
+    if found != expected {
+        let what = format!("rings, lengths {lengths:?}: second {found}, expected {expected}");
+        tally.disagree(&what, &[("first", files[0]), ("second", files[1])]);
+    }
+}
+
+/// The longest walks and words, with the bytes that they need, with one byte less and with more.
+pub fn longest(tally: &mut Tally, seed: u64) {
+    let random = &mut Random::new(seed, 0);
+    let work = MAX_SLOTS * SLOT_BYTES;
+    let (full, short) = (4096 << 8, 110 + (4095 << 8));
+    let contained = rings(Start::Again, false);
+    for (length, expected) in [(work, full), (work + SLOT_BYTES, full), (work - 1, short)] {
+        compare_known(random, tally, &contained, [length, 0], expected);
+    }
+    for (start, letters) in [(Start::Apart, 4095), (Start::Again, 4096)] {
+        let differs = rings(start, true);
+        let length = (letters as u64) << 24;
+        let answers = [
+            ([work, letters], 1 + full + length),
+            ([work + SLOT_BYTES, letters + 1], 1 + full + length),
+            ([work - 1, letters], short),
+            ([work, letters - 1], 111 + length),
+        ];
+        for (lengths, expected) in answers {
+            compare_known(random, tally, &differs, lengths, expected);
+        }
+    }
 }
 
 /// Every truncation and every change of one byte of the worked files, as first and as second file, beside each worked file.

@@ -3,12 +3,12 @@
 use edition::archive;
 use second::entry::LAST_EDITION;
 use second::lasso::MAX_LASSO;
-use second::walk::SLOT_BYTES;
+use second::walk::{MAX_SLOTS, SLOT_BYTES};
 use second::{Entry, ENTRY_BYTES};
 
-use crate::automata::{damaged, draw_letters, draw_states, everything, ring, window, Plain};
+use crate::automata::{damaged, draw_letters, draw_states, everything, ring, window, Plain, Start};
 use crate::buffer::Buffer;
-use crate::containment::draw_bound;
+use crate::containment::{draw_bound, rings};
 use crate::random::Random;
 use crate::tally::Tally;
 
@@ -418,6 +418,31 @@ fn call(random: &mut Random, history: &mut History, ladder: &mut Vec<Plain>) {
                 file = damaged(random, &file);
             }
             history.open(random, &file);
+        }
+    }
+}
+
+/// Offers that are turned down with the longest words: 4,095 and 4,096 letters in the forward walk.
+pub fn longest(calls: &Calls, tallies: &mut Tallies, seed: u64) {
+    let random = &mut Random::new(seed, 0);
+    let most = MAX_SLOTS * SLOT_BYTES;
+    for (start, letters) in [(Start::Apart, 4095), (Start::Again, 4096)] {
+        let [held, offer] = rings(start, true);
+        let name = format!("offer with a word of {letters} letters");
+        let mut history = History::new(random, calls, tallies, name, &[0; ENTRY_BYTES]);
+        history.open(random, &held.padded(32).file());
+        let (length, walk) = ((letters as u64) << 40, 1 << 56);
+        let answers = [
+            ([most, letters], 1 + (4096 << 8) + length),
+            ([most - 1, letters], 110 + (4095 << 8) + walk),
+            ([most, letters - 1], 111 + length + walk),
+        ];
+        for ([work, word], expected) in answers {
+            let found = history.offer(random, &offer.file(), &Terms { bound: 0, work, word });
+            if found != expected {
+                let what = format!("{}: second {found:#x}, expected {expected:#x}", history.name);
+                history.tallies.offer.disagree(&what, &[("file", &offer.file())]);
+            }
         }
     }
 }

@@ -5,5 +5,6 @@ pub mod automata;
 pub mod buffer;
 pub mod containment;
 pub mod entries;
+pub mod listing;
 pub mod random;
 pub mod tally;

@@ -1,12 +1,14 @@
-//! Compares the proved kernel, linked from its archive, with the second checker: the number of every call and every byte of every
-//! buffer. All cases are drawn from the seeds below, so each run makes the same calls. The exit status is not 0 if the two
-//! disagree, or if some outcome never came up.
+//! Compares the proved kernel, linked from its archive, with the second checker: the number of every call and every byte of
+//! every buffer. With `listing` it compares what the proved program prints, run in a folder that nothing else uses. All cases are
+//! drawn from the seeds below, so each run makes the same calls. The exit status is not 0 if the two disagree, or if some outcome
+//! never came up.
 
+use std::path::Path;
 use std::process::ExitCode;
 use std::time::Instant;
 
 use differential::tally::Tally;
-use differential::{containment, entries};
+use differential::{containment, entries, listing};
 
 /// Pairs of drawn files for contain.
 const PAIRS: usize = 800_000;
@@ -23,12 +25,18 @@ const FORGED: usize = 20_000;
 /// Verdicts on words up to the limits.
 const LONG_WORDS: usize = 1_000;
 
+/// Pairs of drawn files for the listing.
+const LISTED: usize = 2_500;
+
 const PAIRS_SEED: u64 = 0x5EED_0001;
 const LONG_WALKS_SEED: u64 = 0x5EED_0002;
 const WORKED_SEED: u64 = 0x5EED_0003;
 const LISTS_SEED: u64 = 0x5EED_0004;
 const FORGED_SEED: u64 = 0x5EED_0005;
 const LONG_WORDS_SEED: u64 = 0x5EED_0006;
+const LONGEST_SEED: u64 = 0x5EED_0007;
+const EXAMPLES_SEED: u64 = 0x5EED_0008;
+const LISTED_SEED: u64 = 0x5EED_0009;
 
 fn main() -> ExitCode {
     let arguments: Vec<String> = std::env::args().skip(1).collect();
@@ -38,8 +46,9 @@ fn main() -> ExitCode {
             contain_passed & compare_entries()
         }
         [word] if word == "rehearse" => rehearse_entries(),
+        [word, program, folder] if word == "listing" => compare_listing(program, folder),
         _ => {
-            println!("usage: differential [rehearse]");
+            println!("usage: differential [rehearse | listing PROGRAM FOLDER]");
             false
         }
     };
@@ -64,6 +73,10 @@ fn compare_contain() -> bool {
     timed(&format!("contain: worked files spoilt, seed {WORKED_SEED:#x}"), || {
         containment::worked_files(&mut tally, WORKED_SEED)
     });
+    timed(
+        &format!("contain: the longest walks and words, seed {LONGEST_SEED:#x}"),
+        || containment::longest(&mut tally, LONGEST_SEED),
+    );
     tally.conclude(&containment::OUTCOMES)
 }
 
@@ -91,7 +104,26 @@ fn check_entries(calls: &entries::Calls) -> bool {
         &format!("entries: {LONG_WORDS} long words, seed {LONG_WORDS_SEED:#x}"),
         || entries::long_words(calls, &mut tallies, LONG_WORDS_SEED, LONG_WORDS),
     );
+    timed(&format!("entries: the longest words, seed {LONGEST_SEED:#x}"), || {
+        entries::longest(calls, &mut tallies, LONGEST_SEED)
+    });
     tallies.conclude() & share_passed
+}
+
+fn compare_listing(program: &str, folder: &str) -> bool {
+    let examples = Path::new(env!("CARGO_MANIFEST_DIR")).join("../../examples");
+    let mut lines = listing::Lines::new(program, folder);
+    timed(
+        &format!("listing: worked automata and examples, seed {EXAMPLES_SEED:#x}"),
+        || listing::named_files(&mut lines, EXAMPLES_SEED, &examples),
+    );
+    timed(&format!("listing: {LISTED} pairs, seed {LISTED_SEED:#x}"), || {
+        listing::drawn_pairs(&mut lines, LISTED_SEED, LISTED)
+    });
+    timed("listing: files cut short", || listing::truncations(&mut lines));
+    timed("listing: lengths of files and inputs", || listing::lengths(&mut lines));
+    timed("listing: long walks and words", || listing::long_walks(&mut lines));
+    lines.conclude()
 }
 
 /// Prints what is done, then the seconds that it took.

@@ -1,8 +1,6 @@
 use crate::entry::Entry;
+use crate::layout::{self, Record, LETTERS, STATES};
 use crate::Refusal;
-
-const STATES: usize = 32;
-const LETTERS: usize = 16;
 
 /// An automaton to look at: what pictures and summaries are made from. Nothing is decided by it.
 ///
@@ -43,38 +41,36 @@ impl Automaton {
 
     /// The automaton of a well-formed file: the archive has read it to its end, so every record is whole and in range.
     fn of_records(file: &[u8]) -> Automaton {
-        let mut automaton = Automaton {
-            states: file[2],
-            letters: file[3],
-            initial: file[4],
-            accepting: 0,
-            targets: [[0; LETTERS]; STATES],
-        };
-        let mut rest = &file[5..];
-        loop {
-            match *rest {
-                [b'A', b'F', state, ..] => {
-                    automaton.accepting |= 1 << state;
-                    rest = &rest[3..];
-                }
-                [b'A', b'T', from, letter, to, ..] => {
+        let mut automaton = Automaton::bare(layout::header(file));
+        for record in layout::records(file) {
+            match record {
+                Record::Accepting(state) => automaton.accepting |= 1 << state,
+                Record::Transition(from, letter, to) => {
                     automaton.targets[usize::from(from)][usize::from(letter)] |= 1 << to;
-                    rest = &rest[5..];
                 }
-                _ => return automaton,
             }
+        }
+        automaton
+    }
+
+    /// The automaton of an open entry's bytes.
+    pub(crate) fn of_entry(entry: &[u8; layout::ENTRY_BYTES]) -> Automaton {
+        let targets = |from| std::array::from_fn(|letter| layout::entry_targets(entry, from, letter));
+        Automaton {
+            accepting: layout::entry_accepting(entry),
+            targets: std::array::from_fn(targets),
+            ..Automaton::bare(layout::entry_header(entry))
         }
     }
 
-    /// The automaton of an entry's sets: 4 bytes for the accepting states, then 4 for each state and letter.
-    pub(crate) fn of_sets([states, letters, initial]: [u8; 3], sets: &[u8]) -> Automaton {
-        let set = |number: usize| u32::from_le_bytes(std::array::from_fn(|byte| sets[4 * number + byte]));
+    /// An automaton without accepting states and transitions.
+    fn bare([states, letters, initial]: [u8; 3]) -> Automaton {
         Automaton {
             states,
             letters,
             initial,
-            accepting: set(0),
-            targets: std::array::from_fn(|from| std::array::from_fn(|letter| set(1 + from * LETTERS + letter))),
+            accepting: 0,
+            targets: [[0; LETTERS]; STATES],
         }
     }
 
@@ -93,14 +89,22 @@ impl Automaton {
         self.initial
     }
 
-    /// Whether the state is accepting.
+    /// Whether the state is accepting. A state that the automaton lacks is not.
     pub fn accepts(&self, state: u8) -> bool {
-        has(self.accepting, state)
+        state < self.states && has(self.accepting, state)
     }
 
-    /// The targets of a state on a letter, upwards.
+    /// The accepting states, upwards.
+    pub fn accepting(&self) -> impl Iterator<Item = u8> + '_ {
+        (0..self.states).filter(|&state| self.accepts(state))
+    }
+
+    /// The targets of a state on a letter, upwards. A state or a letter that the automaton lacks has none.
     pub fn targets(&self, from: u8, letter: u8) -> impl Iterator<Item = u8> + use<> {
-        let set = self.targets[usize::from(from)][usize::from(letter)];
+        let set = match from < self.states && letter < self.letters {
+            true => self.targets[usize::from(from)][usize::from(letter)],
+            false => 0,
+        };
         (0..self.states).filter(move |&to| has(set, to))
     }
 
@@ -146,6 +150,7 @@ impl Automaton {
     }
 }
 
+/// Whether the set has the state, which is below 32.
 fn has(set: u32, state: u8) -> bool {
     set >> state & 1 == 1
 }

@@ -4,16 +4,16 @@ use crate::{archive, bits, half, Argument, Refusal};
 /// What a walk found.
 #[derive(Clone, Copy, Debug, PartialEq, Eq)]
 pub enum Outcome<'a> {
-    /// Every run prefix of the first automaton has one of the second on the same word with lag at most the bound.
+    /// The second automaton follows every run prefix of the first, on the same word, with lag at most the bound.
     Contained {
         /// How many vertices the discovery list has.
         count: u16,
     },
-    /// Some run prefix of the first automaton has none.
+    /// It does not follow some run prefix of the first.
     Differs {
         /// The place of the final vertex in the discovery list, counted from 0.
         count: u16,
-        /// A word with such a run prefix, the written part of the caller's word buffer.
+        /// A word with such a run prefix: what was written in front in the caller's word buffer.
         word: &'a [u8],
     },
 }

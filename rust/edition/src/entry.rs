@@ -1,17 +1,16 @@
 use std::fmt;
 
+use crate::layout::{self, ENTRY_BYTES};
 use crate::refusal::Values;
 use crate::{archive, bits, half, Automaton, Refusal, Walk};
 
-/// The bytes of an entry.
-pub const ENTRY_BYTES: usize = 2061;
-
-/// An entry of the library: empty, or an automaton with its edition number and the states of its first edition.
+/// An entry of the library: empty, or an automaton with the number of its edition and how many states the first edition had.
 ///
 /// Its bytes are private and change only by [`open`](Entry::open) and [`offer`](Entry::offer), so an entry that began with
 /// [`Entry::fresh`] is one that the proofs speak of: each edition that it has held gives every lasso word the verdict of the
 /// first. Bytes from elsewhere enter by [`Entry::from_bytes`], which refuses malformed ones. It cannot tell well-formed bytes that
-/// open and offer wrote from well-formed bytes that somebody made up; of those nothing is proved.
+/// open and offer wrote from well-formed bytes that somebody made up. The tables of refusals and the condition for taking an offer
+/// hold of those too, and nothing more.
 ///
 /// ```
 /// use edition::{Buffers, Entry, Offer, Refusal};
@@ -91,6 +90,19 @@ impl Entry {
         }
     }
 
+    /// Whether the bytes begin as an entry's do, or have the length of one and do not begin as an automaton file: what a program that
+    /// takes both kinds of file goes by. Whether they are an entry is judged by [`from_bytes`](Entry::from_bytes).
+    ///
+    /// ```
+    /// use edition::Entry;
+    ///
+    /// assert!(Entry::is_meant(&Entry::fresh().to_bytes()));
+    /// assert!(!Entry::is_meant(b"AH\x01\x01\x00AF\x00AT\x00\x00\x00AE"));
+    /// ```
+    pub fn is_meant(bytes: &[u8]) -> bool {
+        layout::is_entry_meant(bytes)
+    }
+
     /// The entry's bytes, in the layout of docs/DECISIONS.md, "The boundary for vendors".
     pub fn to_bytes(&self) -> [u8; ENTRY_BYTES] {
         self.0
@@ -138,11 +150,10 @@ impl Entry {
 
     /// What the entry holds; `None` if it is empty.
     pub fn held(&self) -> Option<Held> {
-        let [tag, states, letters, initial, first_states, e0, e1, e2, e3, ..] = self.0;
-        (tag == 1).then(|| Held {
-            edition: u32::from_le_bytes([e0, e1, e2, e3]),
-            first_states,
-            automaton: Automaton::of_sets([states, letters, initial], &self.0[9..]),
+        layout::entry_is_open(&self.0).then(|| Held {
+            edition: layout::entry_edition(&self.0),
+            first_states: layout::entry_first_states(&self.0),
+            automaton: Automaton::of_entry(&self.0),
         })
     }
 }

@@ -8,7 +8,7 @@
 //! | an entry: open it, offer it a smaller edition, ask for a verdict | [`Entry`], [`Buffers::offer`] |
 //! | why a call was refused, and what to do about it | [`Refusal`] |
 //! | the plain numbers | [`archive`] |
-//! | looking at automata and at walks, for display only | [`Automaton`], [`slots`] |
+//! | looking at automata and at walks, for display only | [`Automaton`], [`slots`], [`lag`] |
 //!
 //! ```
 //! use edition::{Buffers, Outcome};
@@ -46,14 +46,23 @@ mod automaton;
 mod buffers;
 mod containment;
 mod entry;
+pub mod lag;
+mod layout;
 mod refusal;
 pub mod slots;
 
 pub use automaton::Automaton;
 pub use buffers::Buffers;
 pub use containment::{contain, Outcome};
-pub use entry::{Entry, Held, Offer, ENTRY_BYTES};
+pub use entry::{Entry, Held, Offer};
+pub use layout::ENTRY_BYTES;
 pub use refusal::{Argument, Refusal, Walk};
+
+/// The version of this package, which is the version of the header and of the command.
+pub const VERSION: &str = env!("CARGO_PKG_VERSION");
+
+/// The largest bound; a larger one is refused with 8.
+pub const MAX_BOUND: u8 = 14;
 
 /// The most slots that a walk uses.
 pub const MAX_SLOTS: usize = 4096;

@@ -38,7 +38,7 @@ pub enum Walk {
 /// ```
 #[derive(Clone, Copy, Debug, PartialEq, Eq)]
 pub enum Refusal {
-    /// 1: the file ends inside a record or without an end.
+    /// 1: the file is cut short inside a record, or has no end record.
     Ends {
         /// The file.
         file: Option<Argument>,

@@ -1,10 +1,11 @@
 //! The slots that a walk leaves in the work buffer, for display and for studies of walks.
 
-/// The bytes of a slot.
-pub const SLOT_BYTES: usize = 40;
+use crate::layout;
+
+pub use crate::layout::SLOT_BYTES;
 
 /// The counters of a vertex, one for each right-hand state.
-pub const COUNTERS: usize = 32;
+pub const COUNTERS: usize = layout::STATES;
 
 /// A vertex of the discovery list.
 #[derive(Clone, Copy, Debug, PartialEq, Eq)]
@@ -41,8 +42,8 @@ pub fn of_work(work: &[u8], count: u16) -> Vec<Slot> {
 
 fn of_bytes(number: usize, bytes: &[u8]) -> Slot {
     Slot {
-        state: bytes[0],
-        counters: std::array::from_fn(|right| bytes[1 + right]),
-        parent: (number > 0).then(|| (u16::from_le_bytes([bytes[34], bytes[35]]), bytes[33])),
+        state: layout::slot_state(bytes),
+        counters: layout::slot_counters(bytes),
+        parent: (number > 0).then(|| layout::slot_parent(bytes)),
     }
 }

@@ -81,6 +81,25 @@ fn the_largest_automaton_is_shown_whole() {
     assert!(!check(&bytes));
 }
 
+/// Two states and one letter, all transitions and acceptance; the bits of 32, 33 and 255 would be those of 0, 1 and 31 in a shift
+/// that wraps.
+#[test]
+fn states_and_letters_that_the_automaton_lacks_have_no_acceptance_and_no_target() {
+    let automaton = Automaton::from_file(&file(2, 0, 3, 15)).expect("the file is well formed");
+    let numbers = 0..=u8::MAX;
+    assert!(numbers.clone().filter(|&state| automaton.accepts(state)).eq([0, 1]));
+    assert!(automaton.accepting().eq([0, 1]));
+    for from in numbers.clone() {
+        for letter in numbers.clone() {
+            let wanted: &[u8] = if from < 2 && letter == 0 { &[0, 1] } else { &[] };
+            assert!(
+                automaton.targets(from, letter).eq(wanted.iter().copied()),
+                "{from} on {letter}"
+            );
+        }
+    }
+}
+
 #[test]
 fn a_file_that_is_not_well_formed_is_not_shown() {
     let whole = file(3, 0, 7, 511);

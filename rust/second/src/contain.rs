@@ -29,7 +29,7 @@ fn of_file(file: u8) -> impl Fn(Refusal) -> ContainRefusal {
     }
 }
 
-/// Contain's number: kind + 256 times count + 16,777,216 times word length.
+/// Contain's number: kind + 2^8 count + 2^24 word length.
 pub fn contain(first: &[u8], second: &[u8], bound: u64, work: &mut [u8], word: &mut [u8]) -> u64 {
     number(&decide(first, second, bound, work, word))
 }

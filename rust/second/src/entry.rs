@@ -296,7 +296,7 @@ pub fn entry_offer(entry: &mut [u8], file: &[u8], bound: u64, work: &mut [u8], w
 
 /// The one number that tells a result of offer: kind + 2^8 forward count + 2^24 back count + 2^40 word length + 2^56 walk. Kind
 /// is 0 taken, 1 forward, 2 back, 100 plus a refusal's number. Walk is 1 (forward) or 2 (back) with refusals 10 and 11. With 10
-/// the count stands at its walk's count, with 11 the length needed stands as word length; what is lacking is 0.
+/// the slots are the count of that walk, with 11 the length is what the word needs; parts that a result lacks are 0.
 pub fn offer_number(result: &Result<Offer, OfferRefusal>) -> u64 {
     let (kind, forward, back, length, walk) = match *result {
         Ok(Offer::Taken { forward, back }) => (0, forward as u64, back as u64, 0, 0),

@@ -3,7 +3,7 @@
 /// Why a call was refused: one case for each row of the document's table.
 #[derive(Clone, Copy, Debug, PartialEq, Eq)]
 pub enum Refusal {
-    /// 1: the file ends inside a record or without an end.
+    /// 1: the file breaks off, within a record or before the end record.
     FileEnds,
     /// 2: a mark is unknown or misplaced, or bytes follow the end.
     Mark,

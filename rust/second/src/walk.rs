@@ -256,7 +256,8 @@ fn hash(vertex: Vertex) -> usize {
     (mixed as u64 ^ (mixed >> 64) as u64) as usize
 }
 
-/// Writes a slot: byte 0 left state, 1-32 counters, 33 letter, 34-35 parent, 36-39 zero; 33-35 are FF without an origin.
+/// Writes a slot's 40 bytes: the left state, 32 counters, the letter, two bytes for the parent, four zeros. Letter and parent are FF
+/// without an origin.
 fn write_slot(slot: &mut [u8], vertex: Vertex, origin: Origin) {
     slot[0] = vertex.left;
     let pairs = slot[1..33].chunks_exact_mut(2);

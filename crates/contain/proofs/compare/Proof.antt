@@ -5,8 +5,8 @@ use Prim.Native.Nat.{ℕ}
 use lib.ListN.{length}
 use borrow.Author.Needs.{needs}
 use Rattle.slots.specs.Slots.{slotCount}
-use Rattle.walk.specs.Walks.{walkOf}
-use Rattle.contain.specs.Contain.{differing}
+use Rattle.graph.specs.Walks.{walkOf}
+use Rattle.answers.specs.Contain.{differing, comparing}
 use Rattle.contain.proofs.WalkAnswers.{ended-at, contained-outcome, full-outcome, found-final, ended-outcome, ended-word}
 use Rattle.contain.proofs.compare.Statement.{statement}
 use Rattle.contain.proofs.compare.Tie as tie
@@ -38,6 +38,7 @@ same-length : tie.Need-same-length
 same-length c = search needs
 
 returns : tie.Need-returns
+unfolding comparing
 returns c =
     let a = c .before .before .before .before .before .before .before .before .before .args in
     let k = c .before .before .before .before .before .walk in
@@ -52,6 +53,7 @@ same-length-3 : tie.Need-same-length-3
 same-length-3 c = search needs
 
 returns-2 : tie.Need-returns-2
+unfolding comparing
 returns-2 c =
     let a = c .before .before .before .before .before .before .before .before .before .before .before .before .before .before .before .args in
     let k = c .before .before .before .before .before .before .before .before .before .before .before .walk in
@@ -69,6 +71,7 @@ same-length-4 : tie.Need-same-length-4
 same-length-4 c = search needs
 
 returns-3 : tie.Need-returns-3
+unfolding comparing
 returns-3 c =
     let a = c .before .before .before .before .before .before .before .before .before .args in
     let k = c .before .before .before .before .before .walk in

@@ -1,11 +1,11 @@
--- `contain::contain` meets its contract: a file that cannot be read stops the call, and of two automata `decide` decides; demand 2 is
--- the chapter's theorem. Assumes nothing.
+-- `contain::contain` meets its contract: a file that cannot be read stops the call, and of two automata `decide` decides; demands 1
+-- and 2 are the chapter's theorems. Assumes nothing.
 use mathlib.Core.Path.{_≡_, refl, sym, ap, _∙_}
 use borrow.Author.Needs.{needs}
 use Rattle.file.proofs.Readings.{reading-holds, reading-refuses, reading-in-range}
-use Rattle.contain.specs.Contain.{outcomeOf, workOf, wordBuffer}
-use Rattle.contain.proofs.Decisions.{stopped-done, decision-done, first-file-stops, second-file-stops, files-read}
-use Rattle.contain.proofs.ContainTheorem.{demand-2}
+use Rattle.contain.proofs.Decisions.{refusing-gives, same-gives, first-file-refuses, second-file-refuses, files-read}
+use Rattle.answers.proofs.ContainDemand.{contain-demand-1}
+use Rattle.answers.proofs.ContainTheorem.{demand-2}
 use Rattle.contain.proofs.contain.Statement.{statement}
 use Rattle.contain.proofs.contain.Tie as tie
 
@@ -13,25 +13,23 @@ read-requires : tie.Need-read-requires
 read-requires c κs = search needs
 
 returns : tie.Need-returns
-unfolding outcomeOf workOf wordBuffer
 returns c =
     let r = c .before .before .read in
     let e = reading-refuses _ (r .result) (r .ensures) (c .if1 .taken) in
-    let d = stopped-done _ _ _ _ _ _ _ 1 (first-file-stops _ _ _ _ _ e) in
-    (d .outcome, (d .work-is, (d .word-is, demand-2 _ _ _ _ _)))
+    let d = refusing-gives _ 1 _ _ (first-file-refuses _ _ _ _ _ _ e) in
+    (d .0, (d .1 .0, (d .1 .1, (contain-demand-1 _ _ _ _ _, demand-2 _ _ _ _ _))))
 
 read-requires-2 : tie.Need-read-requires-2
 read-requires-2 c κs = search needs
 
 returns-2 : tie.Need-returns-2
-unfolding outcomeOf workOf wordBuffer
 returns-2 c =
     let r = c .before .before .read2 in
     let o = c .before .before .before .before .before .read in
     let one = reading-holds _ (o .result) (o .ensures) (c .before .before .before .if1 .left) in
     let e = reading-refuses _ (r .result) (r .ensures) (c .if2 .taken) in
-    let d = stopped-done _ _ _ _ _ _ _ 2 (second-file-stops _ _ _ _ _ _ one e) in
-    (d .outcome, (d .work-is, (d .word-is, demand-2 _ _ _ _ _)))
+    let d = refusing-gives _ 2 _ _ (second-file-refuses _ _ _ _ _ _ _ one e) in
+    (d .0, (d .1 .0, (d .1 .1, (contain-demand-1 _ _ _ _ _, demand-2 _ _ _ _ _))))
 
 decide-requires : tie.Need-decide-requires
 decide-requires c κs =
@@ -48,15 +46,14 @@ same-length-2 : tie.Need-same-length-2
 same-length-2 c = search needs
 
 returns-3 : tie.Need-returns-3
-unfolding outcomeOf workOf wordBuffer
 returns-3 c =
     let o = c .before .before .before .before .before .before .before .before .before .before .before .before .before .before .read in
     let r = c .before .before .before .before .before .before .before .before .before .before .before .read2 in
     let one = reading-holds _ (o .result) (o .ensures) (c .before .before .before .before .before .before .before .before .before .before .before .before .if1 .left) in
     let two = reading-holds _ (r .result) (r .ensures) (c .before .before .before .before .before .before .before .before .before .if2 .left) in
     let k = c .before .before .before .before .decide .ensures in
-    let d = decision-done _ _ _ _ _ _ _ _ _ _ (files-read _ _ _ _ _ _ one two) (k .0) (k .1 .0) (k .1 .1) in
-    (d .outcome, (d .work-is, (d .word-is, demand-2 _ _ _ _ _)))
+    let d = same-gives (files-read _ _ _ _ _ _ _ one two) (k .0, (k .1 .0, k .1 .1)) in
+    (d .0, (d .1 .0, (d .1 .1, (contain-demand-1 _ _ _ _ _, demand-2 _ _ _ _ _))))
 
 pub contain-spec : {M : Type 1} → statement M
 contain-spec =

@@ -1,18 +1,17 @@
--- `contain::decide` meets its contract: each check that stops is the check of `compared`, and past the last one the walk decides.
+-- `contain::decide` meets its contract: each check that refuses is the definition's, and past the last one the walk decides.
 -- Assumes nothing.
 use mathlib.Core.Path.{_≡_, refl, sym, ap, _∙_}
 use borrow.Author.Needs.{needs}
-use Rattle.contain.proofs.Decisions.{stopped-done, walked-done, bound-stops, letters-stop, first-dead-stops, second-dead-stops, checks-pass}
+use Rattle.contain.proofs.Decisions.{refusing-gives, walk-gives, bound-refuses, letters-refuse, first-dead-refuses, second-dead-refuses, checks-pass}
 use Rattle.contain.proofs.decide.Statement.{statement}
 use Rattle.contain.proofs.decide.Tie as tie
 
 returns : tie.Need-returns
-returns c = let d = stopped-done _ _ _ _ _ _ 8 0 (bound-stops _ _ _ _ (c .if1 .taken)) in (d .outcome, (d .work-is, d .word-is))
+returns c = refusing-gives 8 0 _ _ (bound-refuses _ _ _ _ _ (c .if1 .taken))
 
 returns-2 : tie.Need-returns-2
 returns-2 c =
-    let d = stopped-done _ _ _ _ _ _ 7 0 (letters-stop _ _ _ _ (c .before .before .before .if1 .left) (c .if2 .taken)) in
-    (d .outcome, (d .work-is, d .word-is))
+    refusing-gives 7 0 _ _ (letters-refuse _ _ _ _ _ (c .before .before .before .if1 .left) (c .if2 .taken))
 
 has-dead-requires : tie.Need-has-dead-requires
 has-dead-requires c κs = search needs
@@ -21,8 +20,7 @@ returns-3 : tie.Need-returns-3
 returns-3 c =
     let h = c .before .before .before .before .before .if1 .left in
     let e = c .before .before .if2 .left in
-    let d = stopped-done _ _ _ _ _ _ 6 1 (first-dead-stops _ _ _ _ h e (sym (c .before .has-dead .ensures) ∙ c .if3 .taken)) in
-    (d .outcome, (d .work-is, d .word-is))
+    refusing-gives 6 1 _ _ (first-dead-refuses _ _ _ _ _ h e (sym (c .before .has-dead .ensures) ∙ c .if3 .taken))
 
 has-dead-requires-2 : tie.Need-has-dead-requires-2
 has-dead-requires-2 c κs = search needs
@@ -32,8 +30,7 @@ returns-4 c =
     let h = c .before .before .before .before .before .before .before .if1 .left in
     let e = c .before .before .before .before .if2 .left in
     let x = sym (c .before .before .before .has-dead .ensures) ∙ c .before .before .if3 .left in
-    let d = stopped-done _ _ _ _ _ _ 6 2 (second-dead-stops _ _ _ _ h e x (sym (c .before .has-dead2 .ensures) ∙ c .if4 .taken)) in
-    (d .outcome, (d .work-is, d .word-is))
+    refusing-gives 6 2 _ _ (second-dead-refuses _ _ _ _ _ h e x (sym (c .before .has-dead2 .ensures) ∙ c .if4 .taken))
 
 compare-requires : tie.Need-compare-requires
 compare-requires c κs = search needs
@@ -51,8 +48,7 @@ returns-5 c =
     let x = sym (c .before .before .before .before .before .before .before .before .before .before .has-dead .ensures) ∙ c .before .before .before .before .before .before .before .before .before .if3 .left in
     let y = sym (c .before .before .before .before .before .before .before .before .has-dead2 .ensures) ∙ c .before .before .before .before .before .before .before .if4 .left in
     let k = c .before .before .before .before .compare .ensures in
-    let d = walked-done _ _ _ _ _ _ _ _ _ _ _ _ (checks-pass _ _ _ _ h e x y) (k .0) (k .1 .0) (k .1 .1) in
-    (d .outcome, (d .work-is, d .word-is))
+    walk-gives _ _ _ _ _ _ _ _ (checks-pass _ _ _ _ _ h e x y) (k .0) (k .1 .0) (k .1 .1)
 
 pub decide-spec : {M : Type 1} → statement M
 decide-spec =

@@ -7,8 +7,8 @@ use native.Mathlib.Omega.{arith}
 use lib.Dec.{eqb, ltb}
 use Rattle.automaton.specs.Ranges.{some}
 use Rattle.automaton.specs.Sets.{bit}
-use Rattle.sets.specs.Closure.{holdsRow}
-use Rattle.sets.proofs.Rows.{Collected, collecting-begins, collecting-goes-on}
+use Rattle.relations.specs.Closure.{holdsRow}
+use Rattle.relations.proofs.Rows.{Collected, collecting-begins, collecting-goes-on}
 use Rattle.deadend.proofs.WordDeadEnds.{dead-at}
 use Rattle.deadend.proofs.dead_among.Statement.{statement}
 use Rattle.deadend.proofs.dead_among.Tie as tie

@@ -1,6 +1,8 @@
 -- `deadend::dead_set` meets its contract: what the functions that it calls ensure are the facts from which the dead states in words are
 -- the computed ones. Assumes nothing.
+use native.Mathlib.Omega.{arith}
 use borrow.Author.Needs.{needs}
+use Rattle.relations.proofs.Rows.{closed-rows, diagonal-rows}
 use Rattle.deadend.proofs.WordDeadEnds.{dead-at}
 use Rattle.deadend.proofs.dead_set.Statement.{statement}
 use Rattle.deadend.proofs.dead_set.Tie as tie
@@ -52,10 +54,14 @@ returns c =
     let shut = bytes .before .before .before .before in
     let edged = shut .before .before .before in
     let entry = edged .before .before .before .before .before in
-    dead-at (entry .args .t1) (entry .pre) (edged .edge-rows .last .1 .1 .1 .0) (edged .edge-rows .ensures)
-    (shut .close .last .0) (shut .close .ensures)
+    let A = entry .args .t1 in
+    let rows = edged .edge-rows .last .1 .1 .1 .0 in
+    let closed = shut .close .last .0 in
+    let joined = diagonal .add-diagonal .last .0 in
+    dead-at A (entry .pre) rows (edged .edge-rows .ensures .0)
+    closed (closed-rows (A .states) rows closed (shut .close .ensures) (omega arith))
     (bytes .of-bytes .result) (looped .on-loops .result) (bytes .of-bytes .ensures) (looped .on-loops .ensures)
-    (diagonal .add-diagonal .last .0) (diagonal .add-diagonal .ensures)
+    joined (diagonal-rows (A .states) closed joined (diagonal .add-diagonal .ensures) (omega arith))
     (c .dead-among .result) (c .dead-among .ensures)
 
 pub dead-set-spec : {M : Type 1} → statement M

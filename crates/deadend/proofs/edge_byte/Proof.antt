@@ -8,7 +8,7 @@ use lib.ListN.{getD}
 use Rattle.automaton.specs.Ranges.{some}
 use Rattle.automaton.specs.Sets.{bit}
 use Rattle.automaton.proofs.Bits.{bit-zero, bit-or}
-use Rattle.sets.proofs.Rows.{some-none, some-more}
+use Rattle.relations.proofs.Rows.{some-none, some-more}
 use Rattle.deadend.proofs.edge_byte.Statement.{statement}
 use Rattle.deadend.proofs.edge_byte.Tie as tie
 

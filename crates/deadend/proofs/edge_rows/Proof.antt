@@ -1,20 +1,22 @@
 -- `deadend::edge_rows` meets its contract. The loop's invariant: each row below q has the targets of its state. Assumes nothing.
 use mathlib.Core.Path.{_≡_, refl, _∙_}
+use mathlib.Core.Bool.{_&&_}
 use mathlib.Core.List.{List}
-use Prim.Native.Nat.{ℕ, _+_, _*_, _/_, _≤_, _<_, _-_}
+use Prim.Native.Nat.{ℕ, _*_, _≤_, _-_}
 use native.Mathlib.Omega.{arith}
 use borrow.Author.Needs.{needs}
+use lib.Dec.{ltb}
 use lib.ListN.{length, length-set}
 use Rattle.automaton.specs.Ranges.{some}
 use Rattle.automaton.specs.Sets.{bit}
 use Rattle.automaton.specs.Members.{transitionIn}
-use Rattle.sets.proofs.Rows.{Rewritten, rewriting-begins, rewriting-goes-on}
+use Rattle.relations.proofs.Rows.{Rewritten, rewriting-begins, rewriting-goes-on}
 use Rattle.deadend.proofs.edge_rows.Statement.{statement}
 use Rattle.deadend.proofs.edge_rows.Tie as tie
 
 -- the word w has the targets of q on the first k letters, as far as m bytes hold them
 abbrev Targets : List ℕ → ℕ → ℕ → ℕ → ℕ → Type 0
-Targets t m k q w = (r : ℕ) → r < m * 8 → bit w r ≡ some (λ a. transitionIn t q a r) k 0
+Targets t m k q w = (r : ℕ) → bit w r ≡ (ltb r (m * 8) && some (λ a. transitionIn t q a r) k 0)
 
 abbrev Inv-loop : tie.InvT-loop
 Inv-loop transitions n k rows₀ table bytes q₀ rows q =
@@ -59,7 +61,9 @@ same-length : tie.Need-same-length Inv-loop μ-loop
 same-length c = c .before .loop .inv .1
 
 returns : tie.Need-returns Inv-loop μ-loop
-returns c q r h m = c .before .loop .inv .2 .done q (omega arith) r (omega arith)
+returns c =
+    let l = c .before .loop in
+    (λ q r h. l .inv .2 .done q (omega arith) r, λ q h. l .inv .2 .rest q (omega arith))
 
 pub edge-rows-spec : {M : Type 1} → statement M
 edge-rows-spec =

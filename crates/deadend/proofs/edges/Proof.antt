@@ -1,6 +1,6 @@
 -- `deadend::edges` meets its contract. The loop's invariant: the targets in the bytes before byte b are found, and no others. Assumes nothing.
 use mathlib.Core.Path.{_≡_, refl, sym, ap, subst, _∙_}
-use mathlib.Core.Bool.{Bool, true, false, _||_}
+use mathlib.Core.Bool.{Bool, true, false, _&&_, _||_}
 use mathlib.Core.List.{List}
 use mathlib.Core.Logic.{_⊎_, inl, inr}
 use Prim.Native.Nat.{ℕ, _+_, _*_, _≤_, _<_, _-_}
@@ -14,7 +14,7 @@ use Rattle.automaton.specs.Sets.{bit}
 use Rattle.automaton.specs.Members.{transitionIn}
 use Rattle.automaton.proofs.Bits.{bit-zero}
 use Rattle.automaton.proofs.Members.{bit-of-byte}
-use Rattle.sets.proofs.Rows.{some-same}
+use Rattle.relations.proofs.Rows.{some-same}
 use Rattle.deadend.proofs.edges.Statement.{statement}
 use Rattle.deadend.proofs.edges.Tie as tie
 
@@ -54,6 +54,13 @@ module _ (t : List ℕ) (m k q b found byte found′ : ℕ) (h : b < m)
           let z : b * 8 + (r - b * 8) ≡ r = omega arith in
           subst (λ (x : ℕ). bit found′ x ≡ edge t k q x) z (in-byte (r - b * 8) (omega arith))
 
+found-all : (t : List ℕ) (m k q found : ℕ) → Found t m k q m found → (r : ℕ) → bit found r ≡ (ltb r (m * 8) && edge t k q r)
+found-all t m k q found f r = go (ltb r (m * 8)) refl
+  where
+    go : (c : Bool) → ltb r (m * 8) ≡ c → bit found r ≡ (ltb r (m * 8) && edge t k q r)
+    go true d = f .below r (ltb-true r (m * 8) d) ∙ rw d
+    go false d = f .rest r (ltb-false r (m * 8) d) ∙ rw d
+
 abbrev Inv-loop : tie.InvT-loop
 Inv-loop table transitions bytes k q found₀ b₀ found b = Found transitions bytes k q b found
 
@@ -82,7 +89,12 @@ loop-again c =
     (c .with-members .ensures .1) (l .inv)
 
 returns : tie.Need-returns Inv-loop μ-loop
-returns c r h = c .before .loop .inv .below r (omega arith)
+returns c r =
+    let l = c .before .loop in
+    let a = c .before .before .args in
+    let e : l .b ≡ a .bytes = omega arith in
+    found-all (a .transitions .now) (a .bytes) (a .k) (a .q) (l .found)
+    (subst (λ (x : ℕ). Found (a .transitions .now) (a .bytes) (a .k) (a .q) x (l .found)) e (l .inv)) r
 
 pub edges-spec : {M : Type 1} → statement M
 edges-spec =

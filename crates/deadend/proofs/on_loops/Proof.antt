@@ -6,8 +6,8 @@ use Prim.Native.Nat.{ℕ, _≤_, _-_}
 use native.Mathlib.Omega.{arith}
 use lib.Dec.{eqb, ltb}
 use Rattle.automaton.specs.Sets.{bit}
-use Rattle.sets.specs.Closure.{holdsRow}
-use Rattle.sets.proofs.Rows.{Collected, collecting-begins, collecting-goes-on}
+use Rattle.relations.specs.Closure.{holdsRow}
+use Rattle.relations.proofs.Rows.{Collected, collecting-begins, collecting-goes-on}
 use Rattle.deadend.proofs.on_loops.Statement.{statement}
 use Rattle.deadend.proofs.on_loops.Tie as tie
 

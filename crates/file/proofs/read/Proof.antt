@@ -1,7 +1,7 @@
 -- `read` meets its contract: the first record decides, and the others are read from its end on. Assumes nothing.
 use mathlib.Core.Path.{_≡_, sym, ap, _∙_}
 use denote.Ref.{now}
-use Rattle.file.specs.File.{readingOf}
+use Rattle.file.specs.Taking.{readingOf}
 use Rattle.file.proofs.RecordParts.{header-holds, reading-starts, reading-unstarted}
 use borrow.Author.Needs.{needs}
 use Rattle.file.proofs.read.Statement.{statement}

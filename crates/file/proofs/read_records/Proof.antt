@@ -6,9 +6,10 @@ use native.Mathlib.Omega.{arith}
 use denote.Ref.{now}
 use lib.ListN.{length}
 use Rattle.automaton.specs.Automata.{bare}
-use Rattle.file.specs.File.{next, readingOf}
+use Rattle.format.specs.File.{next}
+use Rattle.file.specs.Taking.{readingOf}
 use Rattle.file.specs.Taking.{wholeOf, readPast}
-use Rattle.file.proofs.RecordSteps.{readAfter}
+use Rattle.format.proofs.RecordSteps.{readAfter}
 use Rattle.file.proofs.RecordParts.{reading-refused, reading-ends, reading-advances}
 use borrow.Author.Needs.{needs}
 use Rattle.file.proofs.read_records.Statement.{statement}

@@ -2,8 +2,9 @@
 use mathlib.Core.Path.{ap, _∙_}
 use native.Mathlib.Omega.{arith}
 use borrow.Author.Needs.{needs}
-use Rattle.contain.specs.Contain.{outcomeNumber}
-use Rattle.contain.proofs.OutcomeSizes.{outcome-fits}
+use Rattle.boundary.specs.Numbers.{outcomeNumber}
+use Rattle.boundary.proofs.OutcomeSizes.{outcome-fits}
+use Rattle.kernel.proofs.BytesDemand1.{contain-call-demand-1}
 use Rattle.kernel.proofs.contain.Statement.{statement}
 use Rattle.kernel.proofs.contain.Tie as tie
 
@@ -24,8 +25,10 @@ same-length-2 c = search needs
 
 returns : tie.Need-returns
 returns c =
-    let k = c .before .before .before .before .before .contain in
-    (c .outcome-number .ensures ∙ ap outcomeNumber (k .ensures .0), k .ensures .1)
+    let k = c .before .before .before .before .before .contain in (
+      c .outcome-number .ensures ∙ ap outcomeNumber (k .ensures .0),
+      (k .ensures .1 .0, (k .ensures .1 .1 .0, (contain-call-demand-1 _ _ _ _ _, k .ensures .1 .1 .1 .1))),
+    )
 
 pub contain-spec : {M : Type 1} → statement M
 contain-spec =

@@ -4,9 +4,9 @@ use mathlib.Core.Path.{sym, ap, _∙_}
 use native.Mathlib.Omega.{arith}
 use borrow.Author.Needs.{needs}
 use borrow.Author.Tests.{not-true, not-false}
-use Rattle.entry.specs.declared.OfferResult.{OfferResult}
-use Rattle.entry.specs.Numbers.{offerNumber}
+use Rattle.boundary.specs.Numbers.{offerNumber}
 use Rattle.kernel.proofs.EntryCallLaws.{entry-long, offer-number-fits, taken-result-fits, no-entry-offer, entry-offered}
+use Rattle.kernel.proofs.BytesDemand1.{entry-offer-demand-1}
 use Rattle.kernel.proofs.entry_offer.Statement.{statement}
 use Rattle.kernel.proofs.entry_offer.Tie as tie
 
@@ -19,8 +19,9 @@ same-length c = search needs
 returns : tie.Need-returns
 returns c =
     let a = c .before .before .before .before .before .before .before .args in
-    no-entry-offer (a .entry .now) (a .file .now) (a .bound) (a .work .now) (a .word .now)
-    (sym (c .before .is-entry .ensures) ∙ not-true _ (c .if1 .taken))
+    let p = no-entry-offer (a .entry .now) (a .file .now) (a .bound) (a .work .now) (a .word .now)
+    (sym (c .before .is-entry .ensures) ∙ not-true _ (c .if1 .taken)) in
+    (p .0, (p .1 .0, (p .1 .1 .0, (p .1 .1 .1, entry-offer-demand-1 _ _ _ _ _))))
 
 decode-requires : tie.Need-decode-requires
 decode-requires c κs = entry-long _ (sym (c .before .before .is-entry .ensures) ∙ not-false _ (c .before .if1 .left))
@@ -36,7 +37,7 @@ store-requires c κs =
     let o = c .before .before .before .before .before .before .offer-entry in
     let else = c .before .before .before .before .before .before .before .before .before .before .before in (
       entry-long _ (sym (else .before .is-entry .ensures) ∙ not-false _ (else .if1 .left)),
-      λ e. taken-result-fits _ _ _ _ _ (o .result) (o .ensures .0) (sym (c .before .is-taken .ensures) ∙ e),
+      λ e. taken-result-fits _ _ _ _ _ (o .result) (o .ensures .0) (o .ensures .1 .0) (sym (c .before .is-taken .ensures) ∙ e),
     )
 
 offer-number-requires : tie.Need-offer-number-requires
@@ -46,7 +47,7 @@ offer-number-requires c κs =
     let d = c .before .before .before .before .before .before .before .before .before .before .before .before .decode in
     omega (
       arith,
-      ap (λ (R : OfferResult). offerNumber (R .answer)) (o .ensures .0),
+      ap offerNumber (o .ensures .0),
       offer-number-fits (d .result) (a .file .now) (a .bound) (a .work .now) (a .word .now),
     )
 
@@ -66,8 +67,10 @@ returns-2 c =
     let d = k .before .before .before .before .before .before .before .before .before .before .decode in
     let else = k .before .before .before .before .before .before .before .before .before .before .before .before in
     let i = sym (else .before .is-entry .ensures) ∙ not-false _ (else .if1 .left) in
-    entry-offered _ _ _ _ _ (d .result) (o .result) (k .before .before .is-taken .result) _ _ _ _ i (d .ensures) (o .ensures .0)
-    (o .ensures .1 .0) (o .ensures .1 .1) (k .before .before .is-taken .ensures) (c .offer-number .ensures) (k .store .ensures)
+    let p = entry-offered _ _ _ _ _ (d .result) (o .result) (k .before .before .is-taken .result) _ _ _ _ i (d .ensures) (o .ensures .0)
+    (o .ensures .1 .0) (o .ensures .1 .1 .0) (o .ensures .1 .1 .1 .0) (k .before .before .is-taken .ensures) (c .offer-number .ensures)
+    (k .store .ensures) in
+    (p .0, (p .1 .0, (p .1 .1 .0, (p .1 .1 .1, entry-offer-demand-1 _ _ _ _ _))))
 
 pub entry-offer-spec : {M : Type 1} → statement M
 entry-offer-spec =

@@ -4,9 +4,10 @@ use mathlib.Core.Path.{sym, ap, _∙_}
 use native.Mathlib.Omega.{arith}
 use borrow.Author.Needs.{needs}
 use borrow.Author.Tests.{not-true, not-false}
-use Rattle.entry.specs.declared.OpenResult.{OpenResult}
-use Rattle.entry.specs.Numbers.{openNumber}
+use Rattle.history.specs.declared.OpenResult.{OpenResult}
+use Rattle.boundary.specs.Numbers.{openNumber}
 use Rattle.kernel.proofs.EntryCallLaws.{entry-long, open-number-fits, opened-result-fits, no-entry-open, entry-opened}
+use Rattle.kernel.proofs.BytesDemand1.{entry-open-demand-1}
 use Rattle.kernel.proofs.entry_open.Statement.{statement}
 use Rattle.kernel.proofs.entry_open.Tie as tie
 
@@ -20,7 +21,7 @@ returns : tie.Need-returns
 returns c =
     let a = c .before .before .before .before .before .args in
     let d = no-entry-open (a .entry .now) (a .file .now) (sym (c .before .is-entry .ensures) ∙ not-true _ (c .if1 .taken)) in
-    (sym (d .0), sym (d .1))
+    (sym (d .0), (sym (d .1), entry-open-demand-1 _ _))
 
 decode-requires : tie.Need-decode-requires
 decode-requires c κs = entry-long _ (sym (c .before .before .is-entry .ensures) ∙ not-false _ (c .before .if1 .left))
@@ -36,7 +37,7 @@ store-requires c κs =
     let o = c .before .before .open-entry in
     let else = c .before .before .before .before .before in (
       entry-long _ (sym (else .before .is-entry .ensures) ∙ not-false _ (else .if1 .left)),
-      λ e. opened-result-fits _ _ (o .result) (o .ensures) (sym (c .before .is-opened .ensures) ∙ e),
+      λ e. opened-result-fits _ _ (o .result) (o .ensures .0) (sym (c .before .is-opened .ensures) ∙ e),
     )
 
 open-number-requires : tie.Need-open-number-requires
@@ -46,7 +47,7 @@ open-number-requires c κs =
     let d = c .before .before .before .before .before .before .decode in
     omega (
       arith,
-      ap (λ (R : OpenResult). openNumber (R .answer)) (o .ensures),
+      ap (λ (R : OpenResult). openNumber (R .answer)) (o .ensures .0),
       open-number-fits (d .result) (a .file .now),
     )
 
@@ -60,8 +61,9 @@ returns-2 c =
     let d = k .before .before .before .before .decode in
     let else = k .before .before .before .before .before .before in
     let i = sym (else .before .is-entry .ensures) ∙ not-false _ (else .if1 .left) in
-    entry-opened _ _ (d .result) (o .result) (k .before .before .is-opened .result) _ _ i (d .ensures) (o .ensures)
-    (k .before .before .is-opened .ensures) (c .open-number .ensures) (k .store .ensures)
+    let p = entry-opened _ _ (d .result) (o .result) (k .before .before .is-opened .result) _ _ i (d .ensures) (o .ensures .0)
+    (k .before .before .is-opened .ensures) (c .open-number .ensures) (k .store .ensures) in
+    (p .0, (p .1, entry-open-demand-1 _ _))
 
 pub entry-open-spec : {M : Type 1} → statement M
 entry-open-spec =

@@ -3,10 +3,11 @@ use mathlib.Core.Path.{sym, ap, _∙_}
 use native.Mathlib.Omega.{arith}
 use borrow.Author.Needs.{needs}
 use borrow.Author.Tests.{not-true, not-false}
-use Rattle.entry.specs.declared.Entry.{Entry}
-use Rattle.entry.specs.Verdicts.{verdictOf}
-use Rattle.entry.specs.Numbers.{verdictNumber}
+use Rattle.history.specs.declared.Entry.{Entry}
+use Rattle.history.specs.Verdicts.{verdictOf}
+use Rattle.boundary.specs.Numbers.{verdictNumber}
 use Rattle.kernel.proofs.EntryCallLaws.{entry-long, verdict-number-fits, no-entry-verdict, entry-verdict-number}
+use Rattle.kernel.proofs.BytesDemand1.{entry-verdict-demand-1}
 use Rattle.kernel.proofs.entry_verdict.Statement.{statement}
 use Rattle.kernel.proofs.entry_verdict.Tie as tie
 
@@ -14,7 +15,7 @@ is-entry-requires : tie.Need-is-entry-requires
 is-entry-requires c κs = search needs
 
 returns : tie.Need-returns
-returns c = sym (no-entry-verdict _ _ _ (sym (c .before .is-entry .ensures) ∙ not-true _ (c .if1 .taken)))
+returns c = (sym (no-entry-verdict _ _ _ (sym (c .before .is-entry .ensures) ∙ not-true _ (c .if1 .taken))), entry-verdict-demand-1 _ _ _)
 
 decode-requires : tie.Need-decode-requires
 decode-requires c κs = entry-long _ (sym (c .before .is-entry .ensures) ∙ not-false _ (c .if1 .left))
@@ -27,19 +28,21 @@ verdict-number-requires c κs =
     let a = c .before .before .before .before .before .before .before .args in
     omega (
       arith,
-      ap verdictNumber (c .verdict .ensures),
-      verdict-number-fits (c .before .decode .result) (a .stem .now) (a .turn .now),
+      ap verdictNumber (c .verdict .ensures .0),
+      verdict-number-fits (c .before .decode .result) (a .stem .now) (a .cycle .now),
     )
 
 returns-2 : tie.Need-returns-2
 returns-2 c =
     let a = c .before .before .before .before .before .before .before .before .args in
     let k = c .before .before .before in
-    let e = sym (k .before .is-entry .ensures) ∙ not-false _ (k .if1 .left) in
-    c .verdict-number .ensures
-    ∙ ap verdictNumber
-    (c .before .verdict .ensures ∙ ap (λ (E : Entry). verdictOf E (a .stem .now) (a .turn .now)) (c .before .before .decode .ensures))
-    ∙ sym (entry-verdict-number _ _ _ e)
+    let e = sym (k .before .is-entry .ensures) ∙ not-false _ (k .if1 .left) in (
+      c .verdict-number .ensures
+          ∙ ap verdictNumber
+          (c .before .verdict .ensures .0 ∙ ap (λ (E : Entry). verdictOf E (a .stem .now) (a .cycle .now)) (c .before .before .decode .ensures))
+          ∙ sym (entry-verdict-number _ _ _ e),
+      entry-verdict-demand-1 _ _ _,
+    )
 
 pub entry-verdict-spec : {M : Type 1} → statement M
 entry-verdict-spec =

@@ -36,14 +36,14 @@ use denote.Triple.Table.{entered, cited}
 use denote.Triple.Walked.{says, Stays, stay-none, stay-none-slice, walkOf, goes-none, goes-none-slice, Walks, ends-at, walked, walk-meets}
 use denote.Exit.{yes}
 use denote.Triple.Clauses.{ensured, lasts}
-use Rattle.records.specs.Records.{recordIn}
+use Rattle.format.specs.Records.{recordIn}
 use Rattle.records.specs.declared.Reader.{Reader}
-use Rattle.records.specs.declared.Record.{Record}
+use Rattle.format.specs.declared.Record.{Record}
 use Rattle.records.proofs.Readers.{reader, sliced, token}
 use Rattle.records.proofs.Reader as T
 use Rattle.records.proofs.Reader.Laws as T′
-use Rattle.records.proofs.Record as S
-use Rattle.records.proofs.Record.Laws as S′
+use Rattle.format.proofs.Record as S
+use Rattle.format.proofs.Record.Laws as S′
 use Rattle.records.proofs.Reader.new as new
 use Rattle.records.proofs.Reader.new.Symbol as new-def
 use Rattle.records.proofs.Reader.new.Symbol.{name as #new}

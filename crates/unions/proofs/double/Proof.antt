@@ -6,7 +6,7 @@ use Prim.Native.Nat.{ℕ, _+_, _-_, _≤_, _<_}
 use native.Mathlib.Omega.{arith}
 use lib.Bits.{bitOr}
 use lib.ListN.{length, getD, set, length-set}
-use Rattle.sets.proofs.Rows.{Rewritten, rewriting-goes-on}
+use Rattle.relations.proofs.Rows.{Rewritten, rewriting-goes-on, rows-changed}
 use Rattle.unions.proofs.double.Statement.{statement}
 use Rattle.unions.proofs.double.Tie as tie
 
@@ -82,13 +82,12 @@ returns c =
     let l = c .before .loop in
     let a = c .before .before .args in
     let r = l .inv .2 in
-    record {
-      kept = record { before = λ i h. r .done i (omega arith) .kept h; after = λ i h. r .rest i (omega arith) };
-      made = λ m h.
-          let from : a .at + a .size + m - a .size ≡ a .at + m = omega arith in
-          r .done (a .at + a .size + m) (omega arith) .made (omega arith)
-          ∙ ap (λ (i : ℕ). bitOr (getD (a .table .now) i 0) (a .value)) from;
-    }
+    rows-changed (a .at + a .size) (a .size) _ (a .table .now) (omega arith) (l .table) (l .inv .1)
+    record { before = λ i h. r .done i (omega arith) .kept h; after = λ i h. r .rest i (omega arith) }
+    (λ m h.
+    let from : a .at + a .size + m - a .size ≡ a .at + m = omega arith in
+    r .done (a .at + a .size + m) (omega arith) .made (omega arith)
+    ∙ ap (λ (i : ℕ). bitOr (getD (a .table .now) i 0) (a .value)) from)
 
 pub double-spec : {M : Type 1} → statement M
 double-spec =

@@ -3,8 +3,9 @@ use mathlib.Core.Path.{_≡_, refl, subst}
 use Prim.Native.Nat.{ℕ, _*_, _-_, _≤_}
 use native.Mathlib.Omega.{arith}
 use lib.ListN.{length}
-use Rattle.unions.specs.Unions.{Unions, Kept}
-use Rattle.unions.proofs.UnionTables.{unions-begin, unions-go-on}
+use Rattle.unions.specs.Unions.{Unions}
+use Rattle.relations.proofs.Rows.{Kept}
+use Rattle.unions.proofs.UnionTables.{unions-begin, unions-go-on, unions-filled}
 use Rattle.unions.proofs.fill.Statement.{statement}
 use Rattle.unions.proofs.fill.Tie as tie
 
@@ -46,7 +47,7 @@ loop-again : tie.Need-loop-again Inv-loop μ-loop
 loop-again c =
     let l = c .before .before .before .before .before .loop in
     let a = c .before .before .before .before .before .before .before .before .args in
-    let u = unions-go-on (a .values .now) (a .at) (a .first) (a .table .now) (l .table) _ (l .g) (l .inv .2, l .inv .3)
+    let u = unions-go-on (a .values .now) (a .at) (a .first) (a .table .now) (l .table) _ (l .g) (omega arith) (l .inv .2, l .inv .3)
     (c .before .before .fill-four .ensures) in
     (omega arith, omega arith, u .0, u .1)
 
@@ -57,7 +58,8 @@ returns : tie.Need-returns Inv-loop μ-loop
 returns c =
     let l = c .before .loop in
     let a = c .before .before .before .before .args in
-    let e : l .g ≡ a .groups = omega arith in (
+    let e : l .g ≡ a .groups = omega arith in
+    unions-filled (a .table .now) (l .table) (a .values .now) (a .at) (a .first) (a .groups) (omega arith) (l .inv .1) (
       subst (λ (k : ℕ). Unions (l .table) (a .at) (a .values .now) (a .first) k) e (l .inv .2),
       subst (λ (k : ℕ). Kept (a .at) (k * 16) (a .table .now) (l .table)) e (l .inv .3),
     )

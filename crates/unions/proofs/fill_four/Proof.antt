@@ -1,7 +1,7 @@
 -- `unions::fill_four` meets its contract: the first entry is 0, and each value doubles the entries. Assumes nothing.
 use native.Mathlib.Omega.{arith}
 use lib.ListN.{set, length-set}
-use Rattle.unions.proofs.UnionTables.{choices-four}
+use Rattle.unions.proofs.UnionTables.{four-filled}
 use borrow.Author.Needs.{needs}
 use Rattle.unions.proofs.fill_four.Statement.{statement}
 use Rattle.unions.proofs.fill_four.Tie as tie
@@ -84,8 +84,9 @@ returns c =
     let second = third .before .before .before .before .before in
     let doubled = second .before .before .before .before .before in
     let a = doubled .before .before .before .before .before .args in
-    choices-four (a .table .now) (doubled .double .last .0) (second .double2 .last .0) (third .double3 .last .0) (fourth .double4 .last .0)
-    (a .values .now) (a .at) (a .first) (omega arith)
+    let start = length-set (a .table .now) (a .at) 0 in
+    four-filled (a .table .now) (doubled .double .last .0) (second .double2 .last .0) (third .double3 .last .0) (fourth .double4 .last .0)
+    (a .values .now) (a .at) (a .first) (omega arith) (omega arith) (omega arith) (omega arith) (omega arith)
     (doubled .double .ensures) (second .double2 .ensures) (third .double3 .ensures) (fourth .double4 .ensures)
 
 pub fill-four-spec : {M : Type 1} → statement M

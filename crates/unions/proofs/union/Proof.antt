@@ -1,21 +1,19 @@
 -- `unions::union` meets its contract: each branch takes the groups that so many values are held in. Assumes nothing.
-use mathlib.Core.Path.{_≡_, sym, ap, subst, _∙_}
+use mathlib.Core.Path.{_≡_, sym, ap, _∙_}
 use mathlib.Core.List.{List}
-use Prim.Native.Nat.{ℕ, _*_}
+use Prim.Native.Nat.{ℕ}
 use native.Mathlib.Omega.{arith}
 use Rattle.automaton.specs.Sets.{bit}
-use Rattle.unions.specs.Unions.{chosen, Unions, groupsFor}
+use Rattle.unions.specs.Unions.{named, groupsFor}
 use Rattle.unions.proofs.UnionTables.{groups-two, groups-four, groups-eight}
 use borrow.Author.Needs.{needs}
 use Rattle.unions.proofs.union.Statement.{statement}
 use Rattle.unions.proofs.union.Tie as tie
 
 -- from a number of groups to what it is
-by-groups : (table values : List ℕ) (at first n groups choice w q : ℕ) → groupsFor n ≡ groups
-    → (Unions table at values first groups → bit w q ≡ chosen values first (groups * 4) choice q)
-    → Unions table at values first (groupsFor n) → bit w q ≡ chosen values first (groupsFor n * 4) choice q
-by-groups table values at first n groups choice w q e f u =
-    f (subst (Unions table at values first) e u) ∙ sym (ap (λ (g : ℕ). chosen values first (g * 4) choice q) e)
+by-groups : (table : List ℕ) (at n groups choice w q : ℕ) → groupsFor n ≡ groups → bit w q ≡ named table at groups choice q
+    → bit w q ≡ named table at (groupsFor n) choice q
+by-groups table at n groups choice w q e f = f ∙ sym (ap (λ (g : ℕ). named table at g choice q) e)
 
 union-two-requires : tie.Need-union-two-requires
 union-two-requires c κs = search needs
@@ -27,22 +25,19 @@ union-eight-requires : tie.Need-union-eight-requires
 union-eight-requires c κs = search needs
 
 returns : tie.Need-returns
-returns c values first u q =
+returns c q =
     let a = c .before .before .before .args in
-    by-groups (a .table .now) values (a .at) first (a .n) 2 (a .choice) _ q (groups-two (a .n) (omega arith))
-    (λ v. c .union-two .ensures values first v q) u
+    by-groups (a .table .now) (a .at) (a .n) 2 (a .choice) _ q (groups-two (a .n) (omega arith)) (c .union-two .ensures q)
 
 returns-2 : tie.Need-returns-2
-returns-2 c values first u q =
+returns-2 c q =
     let a = c .before .before .before .before .args in
-    by-groups (a .table .now) values (a .at) first (a .n) 4 (a .choice) _ q (groups-four (a .n) (omega arith) (omega arith))
-    (λ v. c .union-four .ensures values first v q) u
+    by-groups (a .table .now) (a .at) (a .n) 4 (a .choice) _ q (groups-four (a .n) (omega arith) (omega arith)) (c .union-four .ensures q)
 
 returns-3 : tie.Need-returns-3
-returns-3 c values first u q =
+returns-3 c q =
     let a = c .before .before .before .before .args in
-    by-groups (a .table .now) values (a .at) first (a .n) 8 (a .choice) _ q (groups-eight (a .n) (omega arith))
-    (λ v. c .union-eight .ensures values first v q) u
+    by-groups (a .table .now) (a .at) (a .n) 8 (a .choice) _ q (groups-eight (a .n) (omega arith)) (c .union-eight .ensures q)
 
 pub union-spec : {M : Type 1} → statement M
 union-spec =

@@ -1,8 +1,7 @@
 -- `unions::union_two` meets its contract: four bits name an entry of the first group, the next four one of the second.
 -- Assumes nothing.
 use Prim.Native.Nat.{_+_, _/_}
-use native.Mathlib.Omega.{arith}
-use Rattle.unions.proofs.UnionTables.{union-both, union-one, group-at}
+use Rattle.unions.proofs.UnionTables.{named-one, named-both}
 use borrow.Author.Needs.{needs}
 use Rattle.unions.proofs.union_two.Statement.{statement}
 use Rattle.unions.proofs.union_two.Tie as tie
@@ -29,14 +28,11 @@ shared-slice-read-result-2 : tie.Need-shared-slice-read-result-2
 shared-slice-read-result-2 c = search needs
 
 returns : tie.Need-returns
-returns c values first u q =
+returns c q =
     let a = c .before .before .args in
     let table = a .table .now in
-    union-both values first 4 4 (a .choice) _ _ q
-    (union-one table values (a .at) first (a .choice) q
-    (group-at table values (a .at) first 0 2 (a .at) first (omega arith) (omega arith) (omega arith) u))
-    (union-one table values (a .at + 16) (first + 4) (a .choice / 16) q
-    (group-at table values (a .at) first 1 2 (a .at + 16) (first + 4) (omega arith) (omega arith) (omega arith) u))
+    named-both table (a .at) 1 1 (a .choice) _ _ q (named-one table (a .at) (a .choice) q)
+    (named-one table (a .at + 16) (a .choice / 16) q)
 
 pub union-two-spec : {M : Type 1} → statement M
 union-two-spec =

@@ -1,6 +1,8 @@
 -- `verdict::accepted` meets its contract: what the functions that it calls ensure are the facts from which the verdict in words is the
 -- verdict. Assumes nothing.
 use mathlib.Core.Path.{_∙_}
+use native.Mathlib.Omega.{arith}
+use Rattle.relations.proofs.Rows.{closed-rows, diagonal-rows}
 use Rattle.verdict.proofs.WordSets.{rows-held}
 use Rattle.verdict.proofs.WordVerdict.{accepting-held, words-decide}
 use borrow.Author.Needs.{needs}
@@ -65,16 +67,18 @@ returns c =
     let first = stem .before .before .before in
     let entry = first .before .before .before .before .before .before .before in
     let A = entry .args .a in
-    let held = rows-held A (entry .pre) (first .letter-rows .last .1 .1 .0) (first .letter-rows .ensures) in
+    let held = rows-held A (entry .pre) (first .letter-rows .last .1 .1 .0) (first .letter-rows .ensures .0) in
     let accepting = accepting-held A (entry .pre .few-states) (bytes .of-bytes .result) (bytes .of-bytes .ensures) in
+    let runs = turned .loop-rows .last .1 .1 .1 .1 .1 .0 in
+    let closed = shut .close .last .0 in
+    let joined = again .add-diagonal .last .0 in
     c .turns .ensures
-    ∙ words-decide A _ _ (stem .stem-ends .result) (turned .loop-rows .last .1 .1 .1 .1 .1 .0) (shut .close .last .0)
-    (again .add-diagonal .last .0) (turned .loop-rows .last .1 .1 .1 .1 .1 .1 .0)
+    ∙ words-decide A _ _ (stem .stem-ends .result) runs closed joined (turned .loop-rows .last .1 .1 .1 .1 .1 .1 .0)
     (stem .stem-ends .ensures A held)
     (turned .loop-rows .ensures .0 A held accepting)
     (turned .loop-rows .ensures .1 A held accepting)
-    (shut .close .ensures)
-    (again .add-diagonal .ensures)
+    (closed-rows (A .states) runs closed (shut .close .ensures) (omega arith))
+    (diagonal-rows (A .states) closed joined (again .add-diagonal .ensures) (omega arith))
 
 pub accepted-spec : {M : Type 1} → statement M
 accepted-spec =

@@ -5,7 +5,7 @@ use native.Mathlib.Omega.{arith}
 use lib.Dec.{eqb}
 use lib.ListN.{length, length-set}
 use Rattle.automaton.specs.Sets.{bit}
-use Rattle.sets.proofs.Rows.{Rewritten, rewriting-begins, rewriting-goes-on}
+use Rattle.relations.proofs.Rows.{Rewritten, rewriting-begins, rewriting-goes-on}
 use Rattle.verdict.proofs.WordVerdict.{alone}
 use Rattle.verdict.proofs.diagonal.Statement.{statement}
 use Rattle.verdict.proofs.diagonal.Tie as tie
@@ -56,7 +56,9 @@ same-length : tie.Need-same-length Inv-loop μ-loop
 same-length c = c .before .loop .inv .1
 
 returns : tie.Need-returns Inv-loop μ-loop
-returns c p q h = c .before .loop .inv .2 .done p (omega arith) q
+returns c =
+    let r = c .before .loop .inv .2 in
+    (λ p q h. r .done p (omega arith) q, λ p h. r .rest p (omega arith))
 
 pub diagonal-spec : {M : Type 1} → statement M
 diagonal-spec =

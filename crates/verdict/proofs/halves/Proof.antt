@@ -5,8 +5,8 @@ use Prim.Native.Nat.{ℕ, _+_, _/_, _%_, _-_, _≤_, _<_}
 use native.Mathlib.Omega.{arith}
 use lib.ListN.{length, getD, length-set}
 use Rattle.automaton.specs.Sets.{bit}
-use Rattle.sets.specs.Closure.{holdsRow}
-use Rattle.sets.proofs.Rows.{Rewritten, rewriting-begins, rewriting-goes-on}
+use Rattle.relations.specs.Closure.{holdsRow}
+use Rattle.relations.proofs.Rows.{Rewritten, rewriting-begins, rewriting-goes-on}
 use Rattle.verdict.proofs.Pairs.{low-half, high-half}
 use Rattle.verdict.proofs.halves.Statement.{statement}
 use Rattle.verdict.proofs.halves.Tie as tie
@@ -84,8 +84,13 @@ same-length-2 c = c .before .loop .inv .2
 
 returns : tie.Need-returns Inv-loop μ-loop
 returns c =
-    let l = c .before .loop in
-    (λ p q hp hq. l .inv .3 .done p (omega arith) q hq, λ p q hp hq. l .inv .4 .done p (omega arith) q hq)
+    let l = c .before .loop in (
+      λ p q hp hq. l .inv .3 .done p (omega arith) q hq,
+      (
+        λ p q hp hq. l .inv .4 .done p (omega arith) q hq,
+        (λ p h. l .inv .3 .rest p (omega arith), λ p h. l .inv .4 .rest p (omega arith)),
+      ),
+    )
 
 pub halves-spec : {M : Type 1} → statement M
 halves-spec =

@@ -9,10 +9,11 @@ use Rattle.automaton.specs.declared.Automaton.{Automaton}
 use Rattle.automaton.specs.Ranges.{some}
 use Rattle.automaton.specs.Sets.{bit}
 use Rattle.automaton.specs.Automata.{transition}
-use Rattle.sets.specs.Closure.{holdsRow}
+use Rattle.relations.specs.Closure.{holdsRow}
 use Rattle.unions.specs.Unions.{Unions, groupsFor}
 use Rattle.verdict.specs.Words.{HeldRows}
-use Rattle.sets.proofs.Rows.{Rewritten, rewriting-begins, rewriting-goes-on}
+use Rattle.unions.proofs.UnionTables.{named-chosen}
+use Rattle.relations.proofs.Rows.{Rewritten, rewriting-begins, rewriting-goes-on}
 use Rattle.verdict.proofs.WordSets.{targets-choose}
 use Rattle.verdict.proofs.join_pairs.Statement.{statement}
 use Rattle.verdict.proofs.join_pairs.Tie as tie
@@ -59,7 +60,8 @@ loop-again c =
       omega arith,
       length-set (l .pairs) (l .p) (c .union .result) ∙ l .inv .1,
       rewriting-goes-on (l .p) (l .pairs) (c .union .result) (omega arith) (l .inv .2)
-          (λ A values h u x. c .union .ensures values 0 u x
+          (λ A values h u x. c .union .ensures x
+          ∙ named-chosen (a .table .now) values 0 0 (groupsFor (a .n)) (row .result) x u
           ∙ targets-choose A (a .n) (a .letters) (a .rows .now) h (l .p) (a .letter) (row .result) (row .ensures A (a .n) h) values x),
     )
 

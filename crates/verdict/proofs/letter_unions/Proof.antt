@@ -8,8 +8,9 @@ use native.Mathlib.Omega.{arith}
 use lib.Dec.{ltb}
 use lib.ListN.{length}
 use borrow.Author.Tests.{ltb-true, ltb-false}
-use Rattle.unions.specs.Unions.{Unions, Kept}
-use Rattle.unions.proofs.UnionTables.{unions-kept, groups-enough}
+use Rattle.relations.proofs.Rows.{Kept}
+use Rattle.unions.specs.Unions.{Unions, filled}
+use Rattle.unions.proofs.UnionTables.{filled-unions, unions-kept, groups-enough}
 use Rattle.verdict.proofs.letter_unions.Statement.{statement}
 use Rattle.verdict.proofs.letter_unions.Tie as tie
 
@@ -17,11 +18,14 @@ use Rattle.verdict.proofs.letter_unions.Tie as tie
 abbrev LettersFilled : List ℕ → ℕ → List ℕ → ℕ → Type 0
 LettersFilled rows groups tables a = (i : ℕ) → i < a → Unions tables (i * 128) rows (i * 32) groups
 
-one-more : (rows : List ℕ) (groups : ℕ) (tables tables′ : List ℕ) (a : ℕ) → groups ≤ 8 → LettersFilled rows groups tables a
-    → Unions tables′ (a * 128) rows (a * 32) groups × Kept (a * 128) (groups * 16) tables tables′
+one-more : (rows : List ℕ) (groups : ℕ) (tables tables′ : List ℕ) (a : ℕ) → groups ≤ 8 → a * 128 + groups * 16 ≤ length tables
+    → LettersFilled rows groups tables a → tables′ ≡ filled tables (a * 128) rows (a * 32) groups
     → LettersFilled rows groups tables′ (a + 1)
-one-more rows groups tables tables′ a few f u i h = go (ltb i a) refl
+one-more rows groups tables tables′ a few fits f e i h = go (ltb i a) refl
   where
+    u : Unions tables′ (a * 128) rows (a * 32) groups × Kept (a * 128) (groups * 16) tables tables′
+    u = filled-unions tables tables′ rows (a * 128) (a * 32) groups fits e
+
     go : (b : Bool) → ltb i a ≡ b → Unions tables′ (i * 128) rows (i * 32) groups
     go true e =
         let less = ltb-true i a e in
@@ -70,8 +74,8 @@ loop-again c =
     let few = groups-enough (a .n) (omega arith) in (
       omega arith,
       omega arith,
-      one-more (a .rows .now) (groups .result) (l .tables) _ (l .a) (omega (arith, few .0, groups .ensures)) (l .inv .2)
-          (c .before .before .fill .ensures),
+      one-more (a .rows .now) (groups .result) (l .tables) _ (l .a) (omega (arith, few .0, groups .ensures))
+          (omega (arith, few .0, groups .ensures)) (l .inv .2) (c .before .before .fill .ensures),
     )
 
 same-length : tie.Need-same-length Inv-loop μ-loop

@@ -42,9 +42,9 @@ returns c =
     let pairs : (A : Automaton) → HeldRows A (a .n) (a .letters) (a .rows .now) → HeldAccepting A (a .accepting)
     → Turned A (a .n) (a .turn .now) (turned .turn-word .last .1 .1 .1 .1 .1 .0) =
     λ A h held. turned .turn-word .ensures A h held
-    (turned-begins A (a .n) (a .letters) (a .rows .now) h (first .diagonal .last .0) (first .diagonal .ensures)) in (
+    (turned-begins A (a .n) (a .letters) (a .rows .now) h (first .diagonal .last .0) (first .diagonal .ensures .0)) in (
       λ A h held p q hp hq. split .halves .ensures .0 p q hp (omega arith) ∙ pairs A h held .runs p q hp hq,
-      λ A h held p q hp hq. split .halves .ensures .1 p q hp (omega arith) ∙ pairs A h held .visits p q hp hq,
+      λ A h held p q hp hq. split .halves .ensures .1 .0 p q hp (omega arith) ∙ pairs A h held .visits p q hp hq,
     )
 
 pub loop-rows-spec : {M : Type 1} → statement M

@@ -6,8 +6,8 @@ use Prim.Native.Nat.{ℕ, _+_, _-_, _≤_, _<_}
 use native.Mathlib.Omega.{arith}
 use lib.ListN.{length, length-set}
 use Rattle.automaton.specs.Sets.{bit}
-use Rattle.sets.specs.Closure.{holdsRow}
-use Rattle.sets.proofs.Rows.{Rewritten, rewriting-begins, rewriting-goes-on}
+use Rattle.relations.specs.Closure.{holdsRow}
+use Rattle.relations.proofs.Rows.{Rewritten, rewriting-begins, rewriting-goes-on}
 use Rattle.verdict.proofs.met_pairs.Statement.{statement}
 use Rattle.verdict.proofs.met_pairs.Tie as tie
 
@@ -61,8 +61,10 @@ same-length c = c .before .loop .inv .1
 
 returns : tie.Need-returns Inv-loop μ-loop
 returns c =
-    let r = c .before .loop .inv .2 in
-    record { runs = λ t q l h. r .done t (omega arith) .runs q h; visits = λ t q l h. r .done t (omega arith) .visits q h }
+    let r = c .before .loop .inv .2 in (
+      record { runs = λ t q l h. r .done t (omega arith) .runs q h; visits = λ t q l h. r .done t (omega arith) .visits q h },
+      λ t h. r .rest t (omega arith),
+    )
 
 pub met-pairs-spec : {M : Type 1} → statement M
 met-pairs-spec =

@@ -1,7 +1,11 @@
 -- `verdict::on_letter` meets its contract: the set chooses the rows of its states, and a letter that the automaton lacks leads nowhere.
 -- Assumes nothing.
+use mathlib.Core.Path.{_∙_}
+use Prim.Native.Nat.{_*_}
 use native.Mathlib.Omega.{arith}
 use lib.ListN.{set}
+use Rattle.unions.specs.Unions.{groupsFor}
+use Rattle.unions.proofs.UnionTables.{named-chosen}
 use Rattle.verdict.proofs.WordSets.{letter-chosen, letter-none}
 use borrow.Author.Needs.{needs}
 use Rattle.verdict.proofs.on_letter.Statement.{statement}
@@ -17,7 +21,8 @@ returns : tie.Need-returns
 returns c A h =
     let a = c .before .before .before .args in
     letter-chosen A (a .n) (a .letters) (h .rows) (h .held) (a .set) (a .letter) (c .union .result) (omega arith)
-    (c .union .ensures (h .rows) _ (h .unions (a .letter) (omega arith)))
+    (λ q. c .union .ensures q ∙ named-chosen (a .tables .now) (h .rows) (a .letter * 128) (a .letter * 32) (groupsFor (a .n)) (a .set) q
+    (h .unions (a .letter) (omega arith)))
 
 returns-2 : tie.Need-returns-2
 returns-2 c A h =

@@ -7,7 +7,7 @@ use Prim.Native.Nat.{_+_, _≤_, _-_}
 use native.Mathlib.Omega.{arith}
 use lib.ListN.{length, set, drop}
 use Rattle.automaton.specs.declared.Automaton.{Automaton}
-use Rattle.verdict.specs.Verdict.{onWord}
+use Rattle.lassos.specs.Verdict.{onWord}
 use Rattle.verdict.specs.Words.{setOf, HeldUnions}
 use Rattle.verdict.proofs.WordSets.{on-word-step, on-word-end}
 use Rattle.verdict.proofs.on_word.Statement.{statement}

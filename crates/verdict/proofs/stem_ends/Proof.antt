@@ -6,7 +6,7 @@ use mathlib.Core.List.{List}
 use Prim.Native.Nat.{ℕ}
 use native.Mathlib.Omega.{arith}
 use Rattle.automaton.specs.Sets.{bit}
-use Rattle.verdict.specs.Verdict.{onWord}
+use Rattle.lassos.specs.Verdict.{onWord}
 use Rattle.verdict.specs.Words.{setOf, HeldUnions}
 use Rattle.verdict.proofs.WordVerdict.{alone, only-set, low-set}
 use borrow.Author.Needs.{needs}

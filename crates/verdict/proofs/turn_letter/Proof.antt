@@ -2,7 +2,7 @@
 use mathlib.Core.Path.{subst}
 use native.Mathlib.Omega.{arith}
 use Rattle.unions.specs.Unions.{Unions}
-use Rattle.unions.proofs.UnionTables.{groups-enough}
+use Rattle.unions.proofs.UnionTables.{filled-unions, groups-enough}
 use Rattle.verdict.proofs.WordSets.{turned-on}
 use borrow.Author.Needs.{needs}
 use Rattle.verdict.proofs.turn_letter.Statement.{statement}
@@ -38,11 +38,15 @@ returns c A v h held t =
     let fill = join .before .before .before .before .before in
     let groups = fill .before in
     let met = groups .before .before .before .before .before in
-    let a = met .before .before .before .before .before .before .before .args in
+    let entry = met .before .before .before .before .before .before .before in
+    let a = entry .args in
     let after = met .met-pairs .last .1 .1 .1 .0 in
-    turned-on A (a .n) (a .letters) (a .rows .now) h (a .letter) (a .accepting) v (a .pairs .now) after _ held t (met .met-pairs .ensures)
+    let few = groups-enough (a .n) (omega arith) in
+    let unions = filled-unions (a .table .now) (fill .fill .last .0) after 0 0 (groups .groups-for .result)
+    (omega (arith, few .0, groups .groups-for .ensures, entry .pre .4)) (fill .fill .ensures) in
+    turned-on A (a .n) (a .letters) (a .rows .now) h (a .letter) (a .accepting) v (a .pairs .now) after _ held t (met .met-pairs .ensures .0)
     (join .join-pairs .ensures A after h
-    (subst (Unions (fill .fill .last .0) 0 after 0) (groups .groups-for .ensures) (fill .fill .ensures .0)))
+    (subst (Unions (fill .fill .last .0) 0 after 0) (groups .groups-for .ensures) (unions .0)))
 
 pub turn-letter-spec : {M : Type 1} → statement M
 turn-letter-spec =

@@ -7,11 +7,11 @@ use native.Mathlib.Omega.{arith}
 use borrow.Author.Count.{below-more}
 use Rattle.automaton.specs.Ranges.{some}
 use Rattle.automaton.specs.Sets.{bit}
-use Rattle.sets.specs.Closure.{holdsRow}
+use Rattle.relations.specs.Closure.{holdsRow}
 use Rattle.verdict.specs.Words.{comesBack, turnsFrom}
 use Rattle.automaton.proofs.Tests.{is-true, T-true, not-T-false, clash}
 use Rattle.automaton.proofs.Ranges.{some-at, some-below}
-use Rattle.sets.proofs.Rows.{some-same}
+use Rattle.relations.proofs.Rows.{some-same}
 use Rattle.verdict.proofs.turns.Statement.{statement}
 use Rattle.verdict.proofs.turns.Tie as tie
 

@@ -6,7 +6,7 @@ use borrow.Author.Needs.{needs}
 use Rattle.automaton.specs.Automata.{maxStates}
 use Rattle.slots.specs.declared.Vertex.{Vertex}
 use Rattle.slots.proofs.Chains.{index-none}
-use Rattle.walk.specs.LagGraph.{initialVertex}
+use Rattle.graph.specs.LagGraph.{initialVertex}
 use Rattle.walk.specs.Shown.{RulesOf}
 use Rattle.walk.proofs.ShownSlots.{ready-none}
 use Rattle.walk.proofs.Onward.{other-stops}

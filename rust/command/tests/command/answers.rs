@@ -157,7 +157,7 @@ fn a_refused_open_makes_no_store() {
         2,
         "refused 6: the file has a dead state: a run reaches it, and none from it reaches an accepting state on a loop",
     );
-    assert_eq!(folder.names("s"), ["s.lock"]);
+    assert_eq!(folder.names("s"), [""; 0]);
 }
 
 #[test]
@@ -205,4 +205,13 @@ fn an_automaton_file_as_long_as_a_store_is_shown_as_one() {
     assert_eq!(file.len(), 2061);
     folder.write("a.ba", &file);
     folder.answers("show a.ba", 0, "automaton: 16 states, 2 letters, 409 transitions");
+}
+
+#[test]
+fn the_version_is_printed_for_people_and_for_programs() {
+    let folder = Folder::new("version");
+    let version = env!("CARGO_PKG_VERSION");
+    folder.answers("--version", 0, &format!("edition {version}"));
+    let object = format!("{{\"command\":null,\"answer\":\"version\",\"status\":0,\"version\":\"{version}\"}}");
+    folder.answers("--version --json", 0, &object);
 }

@@ -1,7 +1,7 @@
 //! A folder of a test's own, and runs of the command in it.
 
 use std::ffi::OsStr;
-use std::fs;
+use std::fs::{self, File};
 use std::path::{Path, PathBuf};
 use std::process::{Child, Command, Output, Stdio};
 
@@ -72,6 +72,12 @@ impl Folder {
 
     pub fn run<W: AsRef<OsStr>>(&self, words: &[W]) -> Run {
         Run::of(self.command(words).output().expect("a run"))
+    }
+
+    /// Runs the words with the file of this name as standard input.
+    pub fn run_on(&self, input: &str, words: &[&str]) -> Run {
+        let file = File::open(self.path(input)).expect("a file");
+        Run::of(self.command(words).stdin(file).output().expect("a run"))
     }
 
     pub fn start(&self, words: &[&str]) -> Child {

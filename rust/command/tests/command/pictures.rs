@@ -3,7 +3,7 @@
 use std::fs;
 use std::path::PathBuf;
 
-use crate::folder::{Folder, ROOT};
+use crate::folder::{Folder, Run, ROOT};
 
 #[test]
 fn an_automatons_picture_has_what_it_should() {
@@ -58,7 +58,8 @@ fn what_cannot_be_drawn_is_told_on_standard_error() {
     }
 }
 
-/// The vertices of every walk between the examples fit the edges computed for its picture, or there would be none.
+/// The vertices of every walk between the examples fit the edges computed for its picture, or there would be none. The final vertex of a
+/// walk that differs, and nothing else, is red: an octagon, with a path to it unless it is the initial vertex.
 #[test]
 fn every_walk_between_the_examples_has_a_picture() {
     let folder = Folder::new("all_pictures");
@@ -71,7 +72,7 @@ fn every_walk_between_the_examples_has_a_picture() {
     let pairs = files
         .iter()
         .flat_map(|first| files.iter().map(move |second| (first, second)));
-    let [mut contained, mut differs] = [0, 0];
+    let mut statuses = [0; 3];
     for (first, second) in pairs {
         for bound in ["0", "2"] {
             let words = [
@@ -82,13 +83,30 @@ fn every_walk_between_the_examples_has_a_picture() {
                 "--dot".as_ref(),
             ];
             let run = folder.run(&words);
-            let red = run.out.contains("color=red");
-            match run.status {
-                0 => contained += usize::from(!red && !run.out.is_empty()),
-                1 => differs += usize::from(red),
-                status => assert!(status == 2 && run.err.starts_with("refused 7: "), "{words:?}: {run:?}"),
-            }
+            check_picture(&run, &format!("{words:?}"));
+            statuses[usize::try_from(run.status).expect("a status")] += 1;
         }
     }
-    assert!(contained > 4 && differs > 4, "{contained} contained, {differs} differ");
+    assert!(statuses.iter().all(|&count| count > 4), "{statuses:?}");
+}
+
+fn check_picture(run: &Run, words: &str) {
+    let finals = run.out.matches("shape=octagon, color=red").count();
+    let whole = run.out.starts_with("digraph walk {\n") && run.out.ends_with("}\n") && run.err.is_empty();
+    match run.status {
+        0 => assert!(whole && !run.out.contains("color=red"), "{words}: {run:?}"),
+        1 => assert!(whole && finals == 1, "{words}: {run:?}"),
+        2 => assert!(
+            run.err.starts_with("refused 7: ") && run.out.is_empty(),
+            "{words}: {run:?}"
+        ),
+        _ => panic!("{words}: {run:?}"),
+    }
+    if run.status == 1 && run.out.contains("\n    1 [label=") {
+        let red = run
+            .out
+            .lines()
+            .filter(|line| line.contains(" -> ") && line.contains("color=red"));
+        assert!(red.count() >= 1, "{words}: {run:?}");
+    }
 }

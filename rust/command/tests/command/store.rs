@@ -1,6 +1,7 @@
 //! What a STORE is after kills, faults of the disk, damage and several offers at once.
 
-use std::fs::{self, Permissions};
+use std::fs::{self, OpenOptions, Permissions};
+use std::io;
 use std::os::unix::fs::{symlink, PermissionsExt};
 use std::process::{Child, Command};
 
@@ -38,8 +39,8 @@ fn stopper(folder: &Folder) -> std::path::PathBuf {
 }
 
 /// Offers G to a STORE that holds F, stopped at each of its calls in turn until one is stopped at none. Gives the runs that
-/// were stopped, with the status that they should have, and whether the STORE has G after them.
-fn stopped(test: &str, how: &str, status: i32) -> Vec<(Run, bool)> {
+/// were stopped, and whether the STORE has G after them. The statuses are those of a run that is stopped before and after it has.
+fn stopped(test: &str, how: &str, statuses: [i32; 2]) -> Vec<(Run, bool)> {
     let folder = with_store(test);
     let library = stopper(&folder);
     let old = folder.read("s");
@@ -64,7 +65,7 @@ fn stopped(test: &str, how: &str, status: i32) -> Vec<(Run, bool)> {
             assert!(left == new, "call {call}: {run:?}");
             return runs;
         }
-        assert_eq!(run.status, status, "call {call}: {run:?}");
+        assert_eq!(run.status, statuses[usize::from(left == new)], "call {call}: {run:?}");
         let again = folder.run(&["offer", "s", "g.ba", "1"]);
         assert_eq!(again.status, if left == new { 2 } else { 0 }, "call {call}: {again:?}");
         assert!(
@@ -79,29 +80,176 @@ fn stopped(test: &str, how: &str, status: i32) -> Vec<(Run, bool)> {
 /// sync and rename, then sync the folder and print.
 #[test]
 fn a_kill_at_any_call_leaves_the_old_entry_or_the_new_one() {
-    let runs = stopped("kill", "kill", -1);
+    let runs = stopped("kill", "kill", [-1, -1]);
     let renamed = runs.iter().position(|&(_, new)| new).expect("a kill after the rename");
     assert!(renamed >= 6 && runs[renamed..].iter().all(|&(_, new)| new), "{runs:?}");
 }
 
 #[test]
 fn a_fault_of_the_disk_is_told_and_leaves_the_old_entry_or_says_that_it_is_replaced() {
-    let runs = stopped("fault", "fail", 3);
+    let runs = stopped("fault", "fail", [3, 4]);
     for (run, new) in &runs {
-        let replaced = run.err.contains("is replaced, but") || run.err.contains("cannot write the answer");
-        assert_eq!(replaced, *new, "{run:?}");
+        let unsynced = run
+            .err
+            .contains("s is replaced, but may be as before after a power cut: ");
+        let untold = run
+            .err
+            .contains("s is replaced (taken: edition 1, states 3 of 4, walks 5 8), but cannot write the answer: ");
+        assert_eq!(unsynced || untold, *new, "{run:?}");
     }
     let (full, unsynced) = ("No space left on device", "Input/output error");
     for (text, fault) in [
         ("s.unfinished", full),
         ("s.unfinished", unsynced),
         ("is replaced, but", unsynced),
+        ("is replaced (taken: ", full),
     ] {
         assert!(
             runs.iter()
                 .any(|(run, _)| run.err.contains(text) && run.err.contains(fault)),
             "{text}: {fault}: {runs:?}"
         );
+    }
+}
+
+/// Runs the words with a standard output that takes no byte.
+fn untold(folder: &Folder, words: &str) -> Run {
+    let full = OpenOptions::new().write(true).open("/dev/full");
+    let mut command = folder.command(&words.split(' ').collect::<Vec<_>>());
+    Run::of(command.stdout(full.expect("the full device")).output().expect("a run"))
+}
+
+#[test]
+fn a_replaced_store_is_told_where_the_answer_cannot_be_written() {
+    let folder = Folder::new("untold");
+    for (words, done) in [
+        (
+            "open s f.ba",
+            "s is replaced (opened: edition 0, 4 states), but cannot write",
+        ),
+        (
+            "offer s g.ba 1 --json",
+            "s is replaced (taken: edition 1, states 3 of 4, walks 5 8), but cannot write",
+        ),
+    ] {
+        let run = untold(&folder, words);
+        assert!(run.status == 4 && run.err.starts_with(done), "{words}: {run:?}");
+    }
+    folder.answers("show s", 0, "entry: edition 1, first edition of 4 states");
+    for words in ["offer s g.ba 1", "open s f.ba", "verdict s 0 0", "show s"] {
+        let run = untold(&folder, words);
+        assert!(
+            run.status == 3 && run.err.starts_with("cannot write the answer: "),
+            "{words}: {run:?}"
+        );
+    }
+}
+
+/// The fault comes at one call after the other, and past the last call at none; whatever it hits, no answer can be written.
+#[test]
+fn with_a_fault_besides_a_replaced_store_is_told_too() {
+    let folder = with_store("untold_fault");
+    let library = stopper(&folder);
+    let old = folder.read("s");
+    let (mut replaced, mut silent) = (0, 0);
+    for call in 1..=20 {
+        folder.write("s", &old);
+        let full = OpenOptions::new()
+            .write(true)
+            .open("/dev/full")
+            .expect("the full device");
+        let mut command = folder.command(&["offer", "s", "g.ba", "1", "--json"]);
+        command
+            .env("LD_PRELOAD", &library)
+            .env("STOP_AT", call.to_string())
+            .env("STOP_HOW", "fail");
+        let run = Run::of(command.stdout(full).output().expect("a run"));
+        let new = folder.read("s") != old;
+        assert_eq!(run.status, if new { 4 } else { 3 }, "call {call}: {run:?}");
+        // The fault may hit the message itself: then the status alone says it.
+        assert!(
+            run.err.is_empty() || run.err.contains("s is replaced") == new,
+            "call {call}: {run:?}"
+        );
+        silent += usize::from(run.err.is_empty());
+        replaced += usize::from(new);
+    }
+    assert!(
+        (2..20).contains(&replaced) && silent == 1,
+        "{replaced} replaced, {silent} silent"
+    );
+}
+
+#[test]
+fn a_closed_pipe_is_told_as_a_full_disk_is() {
+    let folder = with_store("closed_pipe");
+    let (reader, writer) = io::pipe().expect("a pipe");
+    drop(reader);
+    let mut command = folder.command(&["offer", "s", "g.ba", "1"]);
+    let run = Run::of(command.stdout(writer).output().expect("a run"));
+    assert!(run.status == 4 && run.err.contains("Broken pipe"), "{run:?}");
+    folder.answers("show s", 0, "entry: edition 1, first edition of 4 states");
+}
+
+#[test]
+fn no_lock_stays_beside_what_is_no_store() {
+    let folder = Folder::new("no_lock");
+    fs::create_dir(folder.path("s.folder")).expect("a folder");
+    folder.write("s.damaged", b"\x01");
+    for words in [
+        "open s.folder f.ba",
+        "offer s.folder g.ba 1",
+        "open s.damaged f.ba",
+        "offer s.damaged g.ba 1",
+        "offer s g.ba 1",
+        "open s dead.ba",
+        "open s none.ba",
+    ] {
+        let run = folder.run(&words.split(' ').collect::<Vec<_>>());
+        assert!(run.status >= 2, "{words}: {run:?}");
+        assert_eq!(folder.names("s"), ["s.damaged", "s.folder"], "{words}");
+    }
+}
+
+/// A fault at each call of an open leaves the whole STORE with its lock, or nothing at all.
+#[test]
+fn an_open_that_fails_leaves_nothing() {
+    let folder = Folder::new("failed_open");
+    let library = stopper(&folder);
+    let mut failed = 0;
+    loop {
+        let mut command = folder.command(&["open", "s", "f.ba"]);
+        let call = (failed + 1).to_string();
+        command
+            .env("LD_PRELOAD", &library)
+            .env("STOP_AT", call)
+            .env("STOP_HOW", "fail");
+        let run = Run::of(command.output().expect("a run"));
+        let left = folder.names("s");
+        match run.status {
+            0 => break assert!(failed > 5 && left == ["s", "s.lock", "stop.so"], "{left:?}"),
+            4 => assert_eq!(left, ["s", "s.lock", "stop.so"], "{run:?}"),
+            _ => assert!(run.status == 3 && left == ["stop.so"], "{left:?} after {run:?}"),
+        }
+        let _ = fs::remove_file(folder.path("s"));
+        let _ = fs::remove_file(folder.path("s.lock"));
+        failed += 1;
+    }
+}
+
+/// Opens that are refused remove their lock while others wait for it; those that come in time still find one entry.
+#[test]
+fn locks_that_are_removed_let_no_two_opens_through() {
+    let folder = Folder::new("removed_locks");
+    for _ in 0..50 {
+        let _ = fs::remove_file(folder.path("s"));
+        let _ = fs::remove_file(folder.path("s.lock"));
+        let files = ["dead.ba", "f.ba", "dead.ba", "g.ba", "dead.ba", "h.ba"];
+        let runs = files.map(|file| folder.start(&["open", "s", file])).map(finished);
+        let opened = runs.iter().filter(|run| run.out.starts_with("opened: ")).count();
+        let refused = runs.iter().filter(|run| run.status == 2).count();
+        assert!(opened == 1 && refused == 5, "{runs:?}");
+        assert_eq!(folder.names("s"), ["s", "s.lock"]);
     }
 }
 

@@ -17,7 +17,7 @@ fn fails(folder: &Folder, words: &str, text: &str) {
 }
 
 /// Wrong lines, and what is said of them.
-const WRONG: [(&str, &str); 14] = [
+const WRONG: [(&str, &str); 25] = [
     ("", "usage:"),
     (
         "close s",
@@ -39,6 +39,26 @@ const WRONG: [(&str, &str); 14] = [
     ),
     ("show f.ba --slots 3", "show takes no --slots"),
     ("offer s f.ba 1 --dot", "offer draws no picture"),
+    ("contain f.ba g.ba 1 --never", "contain prints no never claim"),
+    (
+        "show f.ba --dot --never",
+        "--json, --dot and --never ask for different forms",
+    ),
+    (
+        "contain - - 1",
+        "standard input is read once: give one - only\nusage: edition contain",
+    ),
+    ("listing - - 1", "standard input is read once: give one - only"),
+    (
+        "open - f.ba",
+        "STORE is the name of a file, and - is standard input; ./- is a file of that name",
+    ),
+    ("offer - f.ba 1", "STORE is the name of a file"),
+    ("offer - - 1", "STORE is the name of a file"),
+    ("verdict - 0 0", "STORE is the name of a file"),
+    ("contain f.ba - -", "BOUND is a number such as 1, not '-'"),
+    ("verdict s - 0", "STEM is letters in decimal with commas between them"),
+    ("open s - -", "open takes 2 operands, not 3"),
     ("verdict s 0;1 0", "STEM is letters in decimal with commas between them"),
     ("verdict s 0 0,", "LOOP is letters in decimal with commas between them"),
 ];
@@ -73,7 +93,9 @@ fn missing_and_unreadable_files_are_told() {
     }
     fails(&folder, "offer none g.ba 1", "none");
     fails(&folder, "verdict none 0 0", "cannot read none: ");
-    fails(&folder, "open d f.ba", "cannot read ");
+    for words in ["open d f.ba", "offer d f.ba 1", "verdict d 0 0"] {
+        fails(&folder, words, "cannot read ");
+    }
     fails(&folder, "open none/s f.ba", "cannot open none/s.lock: ");
     assert_eq!(folder.names("s"), [""; 0]);
 }
@@ -98,15 +120,11 @@ fn listing_needs_the_proved_program() {
             "{run:?}"
         );
     }
-    let run = Run::of(
-        folder
-            .command(&words)
-            .env_remove("EDITION_LISTING")
-            .output()
-            .expect("a run"),
-    );
+    // Without the variable the program is looked for beside this one.
+    let mut command = folder.command(&words);
+    let run = Run::of(command.env_remove("EDITION_LISTING").output().expect("a run"));
     assert!(
-        run.status == 3 && run.err.contains("EDITION_LISTING does not name the program"),
+        run.status == 3 && run.err.starts_with("cannot run /") && run.err.contains("/listing: "),
         "{run:?}"
     );
 }
@@ -116,6 +134,18 @@ fn an_endless_file_is_not_read_to_its_end() {
     let folder = Folder::new("endless");
     fails(&folder, "show /dev/zero", "is longer than any automaton file");
     fails(&folder, "contain /dev/zero g.ba 1", "is longer than any automaton file");
+    folder.write("most.ba", &vec![b'A'; 1 << 20]);
+    folder.answers(
+        "show most.ba",
+        2,
+        "refused 2: the file has an unknown or misplaced mark, or bytes after its end record",
+    );
+    folder.write("more.ba", &vec![b'A'; (1 << 20) + 1]);
+    fails(
+        &folder,
+        "show more.ba",
+        "more.ba is longer than any automaton file: over 1048576 bytes",
+    );
     let run = folder.run(&["verdict", "/dev/zero", "", "0"]);
     assert!(run.status == 2 && run.out.starts_with("refused 9: "), "{run:?}");
 }
@@ -175,6 +205,9 @@ fn help_names_every_command_and_has_examples() {
     let folder = Folder::new("help");
     let all = folder.run(&["--help"]);
     assert!(all.status == 0 && all.err.is_empty(), "{all:?}");
+    for limit in ["1,048,576 bytes", "65,536", "4 the STORE is replaced, but "] {
+        assert!(all.out.contains(limit), "{limit}: {all:?}");
+    }
     for command in ["listing", "contain", "open", "offer", "verdict", "show"] {
         let one = folder.run(&[command, "--help"]);
         let example = format!("  ./edition {command} ");

@@ -41,8 +41,8 @@ pub fn visits(automaton: &Plain, run: &[usize]) -> u32 {
         .fold(0, |visits, x| visits | 1 << x)
 }
 
-/// The lag of two run prefixes with this many positions, given where each is accepting: the largest number of positions where
-/// the first run is accepting, with the second run not accepting anywhere from the first to the last of them.
+/// The lag of two run prefixes with this many positions, given where each is accepting: of all choices of accepting positions of the
+/// first run between which, ends included, the second one never accepts, the size of the largest.
 pub fn lag(positions: usize, first: u32, second: u32) -> u32 {
     let fits = |chosen: &u32| {
         let lowest = chosen.trailing_zeros();
@@ -122,7 +122,7 @@ fn reached(automaton: &Plain, state: usize) -> BTreeSet<usize> {
     reached
 }
 
-/// Does the state lie on a loop of one or more transitions?
+/// Can the state be reached from itself by at least one transition?
 fn on_loop(automaton: &Plain, state: usize) -> bool {
     let leaving = automaton.transitions.iter().filter(|step| step.0 == state);
     leaving
@@ -185,7 +185,7 @@ impl Listed {
     }
 }
 
-/// The counters after a step on a letter to a left target, right state by right state.
+/// The counters after a step, right state by right state.
 fn step(right: &Plain, bound: u8, counters: &[u8; 32], letter: usize, target_accepts: bool) -> [u8; 32] {
     let mut stepped = [0; 32];
     for (r, counter) in stepped.iter_mut().enumerate().take(right.states) {

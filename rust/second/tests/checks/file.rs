@@ -29,7 +29,7 @@ fn rows_1_to_5_have_their_examples() {
 }
 
 #[test]
-fn a_cut_file_ends_inside_a_record_or_without_an_end() {
+fn a_file_that_breaks_off_is_refused_with_1() {
     for automaton in [f(), g(), h(), j()] {
         let file = automaton.file();
         assert_eq!(refusal(&file), 0);

@@ -4,36 +4,36 @@ use mathlib.Core.Path.{sym, _∙_}
 use borrow.Author.Needs.{needs}
 use borrow.Author.Tests.{lt-ltb, le-ltb, eq-eqb, ne-eqb, not-true, not-false}
 use Rattle.file.proofs.Readings.{reading-holds, reading-refuses, reading-in-range}
-use Rattle.entry.specs.Offers.{offerChecks}
-use Rattle.entry.proofs.EntryChecks.{passed-well-formed}
+use Rattle.history.specs.Offers.{offerChecks}
+use Rattle.history.proofs.EntryChecks.{passed-well-formed}
 use Rattle.entry.proofs.offers.offer_checks.Statement.{statement}
 use Rattle.entry.proofs.offers.offer_checks.Tie as tie
 
 malformed-requires : tie.Need-malformed-requires
 malformed-requires c κs = search needs
 
-turned-requires : tie.Need-turned-requires
-turned-requires c κs = search needs
+stopped-requires : tie.Need-stopped-requires
+stopped-requires c κs = search needs
 
 returns : tie.Need-returns
 unfolding offerChecks
 returns c =
-    simp (sym (c .before .before .malformed .ensures) ∙ c .before .if1 .taken) (c .turned .ensures)
+    simp (sym (c .before .before .malformed .ensures) ∙ c .before .if1 .taken) (c .stopped .ensures)
 
-turned-requires-2 : tie.Need-turned-requires-2
-turned-requires-2 c κs = search needs
+stopped-requires-2 : tie.Need-stopped-requires-2
+stopped-requires-2 c κs = search needs
 
 returns-2 : tie.Need-returns-2
 unfolding offerChecks
 returns-2 c =
     let b = c .before .before .before in
-    simp (sym (b .before .malformed .ensures) ∙ b .if1 .left, c .before .if2 .taken) (c .turned2 .ensures)
+    simp (sym (b .before .malformed .ensures) ∙ b .if1 .left, c .before .if2 .taken) (c .stopped2 .ensures)
 
 read-requires : tie.Need-read-requires
 read-requires c κs = search needs
 
-turned-requires-3 : tie.Need-turned-requires-3
-turned-requires-3 c κs = search needs
+stopped-requires-3 : tie.Need-stopped-requires-3
+stopped-requires-3 c κs = search needs
 
 returns-3 : tie.Need-returns-3
 unfolding offerChecks
@@ -43,10 +43,10 @@ returns-3 c =
       sym (r .before .before .before .before .malformed .ensures) ∙ r .before .before .before .if1 .left,
       r .before .if2 .left,
       reading-refuses _ (r .read .result) (r .read .ensures) (c .before .if3 .taken),
-    ) (c .turned3 .ensures)
+    ) (c .stopped3 .ensures)
 
-turned-requires-4 : tie.Need-turned-requires-4
-turned-requires-4 c κs = search needs
+stopped-requires-4 : tie.Need-stopped-requires-4
+stopped-requires-4 c κs = search needs
 
 returns-4 : tie.Need-returns-4
 unfolding offerChecks
@@ -58,10 +58,10 @@ returns-4 c =
       r .before .if2 .left,
       reading-holds _ (r .read .result) (r .read .ensures) (g .if3 .left),
       lt-ltb _ _ (c .before .if4 .taken),
-    ) (c .turned4 .ensures)
+    ) (c .stopped4 .ensures)
 
-turned-requires-5 : tie.Need-turned-requires-5
-turned-requires-5 c κs = search needs
+stopped-requires-5 : tie.Need-stopped-requires-5
+stopped-requires-5 c κs = search needs
 
 returns-5 : tie.Need-returns-5
 unfolding offerChecks
@@ -74,7 +74,7 @@ returns-5 c =
       reading-holds _ (r .read .result) (r .read .ensures) (g .if3 .left),
       le-ltb _ _ (c .before .before .before .before .if4 .left),
       ne-eqb _ _ (c .before .if5 .taken),
-    ) (c .turned5 .ensures)
+    ) (c .stopped5 .ensures)
 
 has-dead-requires : tie.Need-has-dead-requires
 has-dead-requires c κs =
@@ -82,8 +82,8 @@ has-dead-requires c κs =
     let r = g .before .before .before in
     reading-in-range _ (r .read .result) (r .read .ensures) (g .if3 .left)
 
-turned-requires-6 : tie.Need-turned-requires-6
-turned-requires-6 c κs = search needs
+stopped-requires-6 : tie.Need-stopped-requires-6
+stopped-requires-6 c κs = search needs
 
 returns-6 : tie.Need-returns-6
 unfolding offerChecks
@@ -98,7 +98,7 @@ returns-6 c =
       le-ltb _ _ (l .before .before .before .if4 .left),
       eq-eqb _ _ (l .if5 .left),
       sym (c .before .before .has-dead .ensures) ∙ c .before .if6 .taken,
-    ) (c .turned6 .ensures)
+    ) (c .stopped6 .ensures)
 
 smaller-requires : tie.Need-smaller-requires
 smaller-requires c κs =
@@ -111,8 +111,8 @@ smaller-requires c κs =
       passed-well-formed E m (not-false (E .filled) (r .before .if2 .left)) .in-range,
     )
 
-turned-requires-7 : tie.Need-turned-requires-7
-turned-requires-7 c κs = search needs
+stopped-requires-7 : tie.Need-stopped-requires-7
+stopped-requires-7 c κs = search needs
 
 returns-7 : tie.Need-returns-7
 unfolding offerChecks
@@ -129,10 +129,10 @@ returns-7 c =
       eq-eqb _ _ (l .if5 .left),
       sym (d .has-dead .ensures) ∙ c .before .before .before .if6 .left,
       sym (c .before .before .smaller .ensures) ∙ not-true _ (c .before .if7 .taken),
-    ) (c .turned7 .ensures)
+    ) (c .stopped7 .ensures)
 
-turned-requires-8 : tie.Need-turned-requires-8
-turned-requires-8 c κs = search needs
+stopped-requires-8 : tie.Need-stopped-requires-8
+stopped-requires-8 c κs = search needs
 
 returns-8 : tie.Need-returns-8
 unfolding offerChecks
@@ -151,7 +151,7 @@ returns-8 c =
       sym (d .has-dead .ensures) ∙ s .before .if6 .left,
       sym (s .smaller .ensures) ∙ not-false _ (c .before .before .before .if7 .left),
       eq-eqb _ _ (c .before .if8 .taken),
-    ) (c .turned8 .ensures)
+    ) (c .stopped8 .ensures)
 
 returns-9 : tie.Need-returns-9
 unfolding offerChecks
@@ -177,23 +177,23 @@ offer-checks-spec =
     tie.close
     (tie.spec
     malformed-requires
-    turned-requires
+    stopped-requires
     returns
-    turned-requires-2
+    stopped-requires-2
     returns-2
     read-requires
-    turned-requires-3
+    stopped-requires-3
     returns-3
-    turned-requires-4
+    stopped-requires-4
     returns-4
-    turned-requires-5
+    stopped-requires-5
     returns-5
     has-dead-requires
-    turned-requires-6
+    stopped-requires-6
     returns-6
     smaller-requires
-    turned-requires-7
+    stopped-requires-7
     returns-7
-    turned-requires-8
+    stopped-requires-8
     returns-8
     returns-9)

@@ -3,8 +3,10 @@
 use mathlib.Core.Path.{ap, _∙_}
 use borrow.Author.Needs.{needs}
 use denote.Ref.{now}
-use Rattle.entry.specs.Offers.{settled, offerOf, offerWork, offerWord}
-use Rattle.entry.proofs.OfferPassed.{checked-turned, checked-passed, checked-passing}
+use Rattle.history.specs.declared.OfferAnswer.{OfferAnswer}
+use Rattle.history.specs.Offers.{entryOn, offerOf}
+use Rattle.history.proofs.CallDemands.{offer-demand-1}
+use Rattle.entry.proofs.OfferPassed.{checked-stopped, checked-passed, checked-passing}
 use Rattle.entry.proofs.offers.offer_entry.Statement.{statement}
 use Rattle.entry.proofs.offers.offer_entry.Tie as tie
 
@@ -12,12 +14,12 @@ offer-checks-requires : tie.Need-offer-checks-requires
 offer-checks-requires c κs = search needs
 
 returns : tie.Need-returns
-unfolding offerOf offerWork offerWord
+unfolding offerOf
 returns c =
     let k = c .before .before in
     let a = k .before .before .before .before .args in
-    let e = checked-turned (a .entry) (now (a .file)) (a .bound) (k .offer-checks .result) (k .offer-checks .ensures) (c .if1 .taken) in
-    (rw e, (rw e, rw e))
+    let e = checked-stopped (a .entry) (now (a .file)) (a .bound) (k .offer-checks .result) (k .offer-checks .ensures) (c .if1 .taken) in
+    (rw e, (rw e, (rw e, (rw e, offer-demand-1 _ _ _ _ _))))
 
 walk-both-requires : tie.Need-walk-both-requires
 walk-both-requires c κs =
@@ -43,7 +45,7 @@ same-length-2 : tie.Need-same-length-2
 same-length-2 c = search needs
 
 returns-2 : tie.Need-returns-2
-unfolding offerOf offerWork offerWord
+unfolding offerOf
 returns-2 c =
     let b = c .before .before .before .before .before in
     let w = b .before in
@@ -51,8 +53,11 @@ returns-2 c =
     let a = k .before .before .before .before .args in
     let e = checked-passed (a .entry) (now (a .file)) (a .bound) (k .offer-checks .result) (k .offer-checks .ensures)
     (w .before .before .if1 .left) in (
-      rw e (c .settle .ensures ∙ ap (settled (a .entry) (k .offer-checks .result .automaton)) (b .walk-both .ensures .0)),
-      (rw e (b .walk-both .ensures .1 .0), rw e (b .walk-both .ensures .1 .1)),
+      rw e (c .settle .ensures .0 ∙ b .walk-both .ensures .0),
+      (
+        rw e (c .settle .ensures .1 ∙ ap (entryOn (a .entry) (k .offer-checks .result .automaton)) (b .walk-both .ensures .0)),
+        (rw e (b .walk-both .ensures .1 .0), (rw e (b .walk-both .ensures .1 .1), offer-demand-1 _ _ _ _ _)),
+      ),
     )
 
 pub offer-entry-spec : {M : Type 1} → statement M

@@ -1,5 +1,5 @@
 -- `entry::offers::settle` meets its contract: only "taken" changes the entry. Assumes nothing.
-use mathlib.Core.Path.{sym, _∙_}
+use mathlib.Core.Path.{refl, sym, _∙_}
 use borrow.Author.Needs.{needs}
 use Rattle.entry.proofs.offers.settle.Statement.{statement}
 use Rattle.entry.proofs.offers.settle.Tie as tie
@@ -11,10 +11,10 @@ next-edition-requires : tie.Need-next-edition-requires
 next-edition-requires c κs = search needs
 
 returns : tie.Need-returns
-returns c = simp (sym (c .before .before .is-taken .ensures) ∙ c .before .if1 .taken, c .next-edition .ensures)
+returns c = (refl, simp (sym (c .before .before .is-taken .ensures) ∙ c .before .if1 .taken, c .next-edition .ensures))
 
 returns-2 : tie.Need-returns-2
-returns-2 c = simp (sym (c .before .is-taken .ensures) ∙ c .if1 .left)
+returns-2 c = (refl, simp (sym (c .before .is-taken .ensures) ∙ c .if1 .left))
 
 pub settle-spec : {M : Type 1} → statement M
 settle-spec = tie.close (tie.spec is-taken-requires next-edition-requires returns returns-2)

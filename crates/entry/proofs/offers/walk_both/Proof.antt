@@ -1,8 +1,10 @@
--- `entry::offers::walk_both` meets its contract: the forward walk's outcome gives the answer, or, where it is containment, the back walk
--- does, from what the forward walk left in the buffers. Assumes nothing.
-use borrow.Author.Needs.{needs}
+-- `entry::offers::walk_both` meets its contract: the forward walk's answer is the offer's, or, where it is containment, the back walk
+-- gives it, from what the forward walk left in the buffers. Assumes nothing.
+use mathlib.Core.Path.{sym, _∙_}
 use denote.Ref.{now}
-use Rattle.entry.proofs.OfferWalks.{forward-ends, back-follows}
+use Rattle.answers.specs.declared.Comparison.the-variants.{Contained}
+use Rattle.entry.proofs.BothWalks.{forward-gives, back-gives}
+use borrow.Author.Needs.{needs}
 use Rattle.entry.proofs.offers.walk_both.Statement.{statement}
 use Rattle.entry.proofs.offers.walk_both.Tie as tie
 
@@ -12,14 +14,14 @@ compare-requires c κs = search needs
 enum-known-count : tie.Need-enum-known-count
 enum-known-count c = search needs
 
-walk-back-requires : tie.Need-walk-back-requires
-walk-back-requires c κs = search needs
+compare-requires-2 : tie.Need-compare-requires-2
+compare-requires-2 c κs = search needs
+
+back-answer-requires : tie.Need-back-answer-requires
+back-answer-requires c κs = search needs
 
 enum-known-place : tie.Need-enum-known-place
 enum-known-place c = search needs
-
-enum-known-number : tie.Need-enum-known-number
-enum-known-number c = search needs
 
 enum-known-slots : tie.Need-enum-known-slots
 enum-known-slots c = search needs
@@ -35,13 +37,12 @@ same-length-2 c = search needs
 
 returns : tie.Need-returns
 returns c =
-    let k = c .before .before .before .before .walk-back in
-    let w = c .before .before .before .before .before .before .before .before .before .before .before .before .before .before in
+    let k = c .before .before .before .before .before .compare2 in
+    let w = c .before .before .before .before .before .before .before .before .before .before .before .before .before .before .before in
     let f = w .compare in
     let a = w .before .before .before .before .before .args in
-    back-follows (a .held) (a .offer) (a .bound) (now (a .work)) (now (a .word)) _ _ _ (f .ensures .0) (f .ensures .1 .0) (f .ensures .1 .1)
-    _ _ _ _ (c .before .before .before .before .before .before .before .before .count .given .1) (f .kept .1 .1 .1 .0) (f .kept .1 .1 .1 .1 .0)
-    (k .ensures .0) (k .ensures .1 .0) (k .ensures .1 .1)
+    back-gives (a .held) (a .offer) (a .bound) (now (a .work)) (now (a .word)) _ _ (f .ensures .1 .0) (f .ensures .1 .1) _ _ _ _ _
+    (sym (c .before .before .before .before .before .before .before .before .before .count .given .1) ∙ f .ensures .0) (c .back-answer .ensures) (k .ensures .0) (k .ensures .1 .0) (k .ensures .1 .1)
 
 same-length-3 : tie.Need-same-length-3
 same-length-3 c = search needs
@@ -54,8 +55,8 @@ returns-2 c =
     let w = c .before .before .before .before .before .before .before in
     let f = w .compare in
     let a = w .before .before .before .before .before .args in
-    forward-ends (a .held) (a .offer) (a .bound) (now (a .work)) (now (a .word)) _ _ _ (f .ensures .0) (f .ensures .1 .0) (f .ensures .1 .1)
-    _ (c .before .place .given .1) tt
+    forward-gives (a .held) (a .offer) (a .bound) (now (a .work)) (now (a .word)) _ _ (f .ensures .1 .0) (f .ensures .1 .1) _ (Contained 0) tt
+    (sym (c .before .place .given .1) ∙ f .ensures .0)
 
 same-length-5 : tie.Need-same-length-5
 same-length-5 c = search needs
@@ -68,8 +69,8 @@ returns-3 c =
     let w = c .before .before .before .before .before .before .before in
     let f = w .compare in
     let a = w .before .before .before .before .before .args in
-    forward-ends (a .held) (a .offer) (a .bound) (now (a .work)) (now (a .word)) _ _ _ (f .ensures .0) (f .ensures .1 .0) (f .ensures .1 .1)
-    _ (c .before .number .given .1) tt
+    forward-gives (a .held) (a .offer) (a .bound) (now (a .work)) (now (a .word)) _ _ (f .ensures .1 .0) (f .ensures .1 .1) _ (Contained 0) tt
+    (sym (c .before .slots .given .1) ∙ f .ensures .0)
 
 same-length-7 : tie.Need-same-length-7
 same-length-7 c = search needs
@@ -82,22 +83,8 @@ returns-4 c =
     let w = c .before .before .before .before .before .before .before in
     let f = w .compare in
     let a = w .before .before .before .before .before .args in
-    forward-ends (a .held) (a .offer) (a .bound) (now (a .work)) (now (a .word)) _ _ _ (f .ensures .0) (f .ensures .1 .0) (f .ensures .1 .1)
-    _ (c .before .slots .given .1) tt
-
-same-length-9 : tie.Need-same-length-9
-same-length-9 c = search needs
-
-same-length-10 : tie.Need-same-length-10
-same-length-10 c = search needs
-
-returns-5 : tie.Need-returns-5
-returns-5 c =
-    let w = c .before .before .before .before .before .before .before in
-    let f = w .compare in
-    let a = w .before .before .before .before .before .args in
-    forward-ends (a .held) (a .offer) (a .bound) (now (a .work)) (now (a .word)) _ _ _ (f .ensures .0) (f .ensures .1 .0) (f .ensures .1 .1)
-    _ (c .before .len .given .1) tt
+    forward-gives (a .held) (a .offer) (a .bound) (now (a .work)) (now (a .word)) _ _ (f .ensures .1 .0) (f .ensures .1 .1) _ (Contained 0) tt
+    (sym (c .before .len .given .1) ∙ f .ensures .0)
 
 pub walk-both-spec : {M : Type 1} → statement M
 walk-both-spec =
@@ -105,9 +92,9 @@ walk-both-spec =
     (tie.spec
     compare-requires
     enum-known-count
-    walk-back-requires
+    compare-requires-2
+    back-answer-requires
     enum-known-place
-    enum-known-number
     enum-known-slots
     enum-known-len
     same-length
@@ -121,7 +108,4 @@ walk-both-spec =
     returns-3
     same-length-7
     same-length-8
-    returns-4
-    same-length-9
-    same-length-10
-    returns-5)
+    returns-4)

@@ -1,8 +1,9 @@
 -- `entry::opens::open_entry` meets its contract, check by check; the automaton that the reader hands out is in range. Assumes nothing.
 use mathlib.Core.Path.{sym, _∙_}
 use borrow.Author.Needs.{needs}
+use Rattle.history.proofs.CallDemands.{open-demand-1}
 use Rattle.file.proofs.Readings.{reading-holds, reading-refuses, reading-in-range}
-use Rattle.entry.specs.Opens.{openChecks, openOf}
+use Rattle.history.specs.Opens.{openChecks, openOf}
 use Rattle.entry.proofs.opens.open_entry.Statement.{statement}
 use Rattle.entry.proofs.opens.open_entry.Tie as tie
 
@@ -14,7 +15,7 @@ refused-requires c κs = search needs
 
 returns : tie.Need-returns
 unfolding openOf openChecks
-returns c = simp (sym (c .before .before .malformed .ensures) ∙ c .before .if1 .taken) (c .refused .ensures)
+returns c = (simp (sym (c .before .before .malformed .ensures) ∙ c .before .if1 .taken) (c .refused .ensures), open-demand-1 _ _)
 
 refused-requires-2 : tie.Need-refused-requires-2
 refused-requires-2 c κs = search needs
@@ -23,7 +24,7 @@ returns-2 : tie.Need-returns-2
 unfolding openOf openChecks
 returns-2 c =
     let b = c .before .before in
-    simp (sym (b .before .malformed .ensures) ∙ b .if1 .left, c .before .if2 .taken) (c .refused2 .ensures)
+    (simp (sym (b .before .malformed .ensures) ∙ b .if1 .left, c .before .if2 .taken) (c .refused2 .ensures), open-demand-1 _ _)
 
 read-requires : tie.Need-read-requires
 read-requires c κs = search needs
@@ -35,12 +36,14 @@ returns-3 : tie.Need-returns-3
 unfolding openOf openChecks
 returns-3 c =
     let r = c .before .before .before in
-    let b = r .before .before in
-    simp (
-      sym (b .before .malformed .ensures) ∙ b .if1 .left,
-      r .before .if2 .left,
-      reading-refuses _ (r .read .result) (r .read .ensures) (c .before .if3 .taken),
-    ) (c .refused3 .ensures)
+    let b = r .before .before in (
+      simp (
+        sym (b .before .malformed .ensures) ∙ b .if1 .left,
+        r .before .if2 .left,
+        reading-refuses _ (r .read .result) (r .read .ensures) (c .before .if3 .taken),
+      ) (c .refused3 .ensures),
+      open-demand-1 _ _,
+    )
 
 has-dead-requires : tie.Need-has-dead-requires
 has-dead-requires c κs =
@@ -54,13 +57,15 @@ unfolding openOf openChecks
 returns-4 c =
     let d = c .before .before in
     let r = d .before .before .before in
-    let b = r .before .before in
-    simp (
-      sym (b .before .malformed .ensures) ∙ b .if1 .left,
-      r .before .if2 .left,
-      reading-holds _ (r .read .result) (r .read .ensures) (d .before .if3 .left),
-      sym (d .has-dead .ensures) ∙ c .before .if4 .taken,
-    ) (c .refused4 .ensures)
+    let b = r .before .before in (
+      simp (
+        sym (b .before .malformed .ensures) ∙ b .if1 .left,
+        r .before .if2 .left,
+        reading-holds _ (r .read .result) (r .read .ensures) (d .before .if3 .left),
+        sym (d .has-dead .ensures) ∙ c .before .if4 .taken,
+      ) (c .refused4 .ensures),
+      open-demand-1 _ _,
+    )
 
 first-edition-requires : tie.Need-first-edition-requires
 first-edition-requires c κs = search needs
@@ -70,13 +75,15 @@ unfolding openOf openChecks
 returns-5 c =
     let d = c .before .before in
     let r = d .before .before .before in
-    let b = r .before .before in
-    simp (
-      sym (b .before .malformed .ensures) ∙ b .if1 .left,
-      r .before .if2 .left,
-      reading-holds _ (r .read .result) (r .read .ensures) (d .before .if3 .left),
-      sym (d .has-dead .ensures) ∙ c .before .if4 .left,
-      c .first-edition .ensures,
+    let b = r .before .before in (
+      simp (
+        sym (b .before .malformed .ensures) ∙ b .if1 .left,
+        r .before .if2 .left,
+        reading-holds _ (r .read .result) (r .read .ensures) (d .before .if3 .left),
+        sym (d .has-dead .ensures) ∙ c .before .if4 .left,
+        c .first-edition .ensures,
+      ),
+      open-demand-1 _ _,
     )
 
 pub open-entry-spec : {M : Type 1} → statement M

@@ -2,9 +2,10 @@
 -- Assumes nothing.
 use mathlib.Core.Path.{sym, _∙_}
 use borrow.Author.Needs.{needs}
+use Rattle.history.proofs.CallDemands.{verdict-demand-1}
 use borrow.Author.Tests.{not-false}
-use Rattle.entry.specs.Verdicts.{verdictOf}
-use Rattle.entry.proofs.EntryChecks.{passed-well-formed}
+use Rattle.history.specs.Verdicts.{verdictOf}
+use Rattle.history.proofs.EntryChecks.{passed-well-formed}
 use Rattle.entry.proofs.verdicts.verdict.Statement.{statement}
 use Rattle.entry.proofs.verdicts.verdict.Tie as tie
 
@@ -13,13 +14,13 @@ malformed-requires c κs = search needs
 
 returns : tie.Need-returns
 unfolding verdictOf
-returns c = simp (sym (c .before .malformed .ensures) ∙ c .if1 .taken)
+returns c = (simp (sym (c .before .malformed .ensures) ∙ c .if1 .taken), verdict-demand-1 _ _ _)
 
 returns-2 : tie.Need-returns-2
 unfolding verdictOf
 returns-2 c =
     let b = c .before .before in
-    simp (sym (b .before .malformed .ensures) ∙ b .if1 .left, c .if2 .taken)
+    (simp (sym (b .before .malformed .ensures) ∙ b .if1 .left, c .if2 .taken), verdict-demand-1 _ _ _)
 
 bad-lasso-requires : tie.Need-bad-lasso-requires
 bad-lasso-requires c κs = search needs
@@ -27,11 +28,13 @@ bad-lasso-requires c κs = search needs
 returns-3 : tie.Need-returns-3
 unfolding verdictOf
 returns-3 c =
-    let b = c .before .before in
-    simp (
-      sym (b .before .before .before .malformed .ensures) ∙ b .before .before .if1 .left,
-      b .if2 .left,
-      sym (c .before .bad-lasso .ensures) ∙ c .if3 .taken,
+    let b = c .before .before in (
+      simp (
+        sym (b .before .before .before .malformed .ensures) ∙ b .before .before .if1 .left,
+        b .if2 .left,
+        sym (c .before .bad-lasso .ensures) ∙ c .if3 .taken,
+      ),
+      verdict-demand-1 _ _ _,
     )
 
 accepted-requires : tie.Need-accepted-requires
@@ -44,23 +47,27 @@ accepted-requires c κs =
 returns-4 : tie.Need-returns-4
 unfolding verdictOf
 returns-4 c =
-    let b = c .before .before .before .before in
-    simp (
-      sym (b .before .before .before .malformed .ensures) ∙ b .before .before .if1 .left,
-      b .if2 .left,
-      sym (c .before .before .before .bad-lasso .ensures) ∙ c .before .before .if3 .left,
-      sym (c .before .accepted .ensures) ∙ c .if4 .taken,
+    let b = c .before .before .before .before in (
+      simp (
+        sym (b .before .before .before .malformed .ensures) ∙ b .before .before .if1 .left,
+        b .if2 .left,
+        sym (c .before .before .before .bad-lasso .ensures) ∙ c .before .before .if3 .left,
+        sym (c .before .accepted .ensures) ∙ c .if4 .taken,
+      ),
+      verdict-demand-1 _ _ _,
     )
 
 returns-5 : tie.Need-returns-5
 unfolding verdictOf
 returns-5 c =
-    let b = c .before .before .before .before in
-    simp (
-      sym (b .before .before .before .malformed .ensures) ∙ b .before .before .if1 .left,
-      b .if2 .left,
-      sym (c .before .before .before .bad-lasso .ensures) ∙ c .before .before .if3 .left,
-      sym (c .before .accepted .ensures) ∙ c .if4 .left,
+    let b = c .before .before .before .before in (
+      simp (
+        sym (b .before .before .before .malformed .ensures) ∙ b .before .before .if1 .left,
+        b .if2 .left,
+        sym (c .before .before .before .bad-lasso .ensures) ∙ c .before .before .if3 .left,
+        sym (c .before .accepted .ensures) ∙ c .if4 .left,
+      ),
+      verdict-demand-1 _ _ _,
     )
 
 pub verdict-spec : {M : Type 1} → statement M

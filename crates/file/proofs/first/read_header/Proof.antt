@@ -4,7 +4,7 @@ use native.Mathlib.Omega.{arith}
 use denote.Ref.{now}
 use borrow.Author.Tests.{not-true, not-false}
 use Rattle.automaton.specs.Automata.{bare}
-use Rattle.file.specs.File.{header, check, next}
+use Rattle.format.specs.File.{header, check, next}
 use Rattle.file.proofs.RecordParts.{header-short, header-unmarked, header-cut, header-values}
 use borrow.Author.Needs.{needs}
 use Rattle.file.proofs.first.read_header.Statement.{statement}

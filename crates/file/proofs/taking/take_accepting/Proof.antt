@@ -5,7 +5,7 @@ use Prim.Native.Nat.{ℕ}
 use native.Mathlib.Omega.{arith}
 use denote.Ref.{now}
 use Rattle.file.specs.declared.Progress.the-variants.{Refused, Goes}
-use Rattle.file.specs.File.{next}
+use Rattle.format.specs.File.{next}
 use Rattle.file.specs.Taking.{wholeOf}
 use Rattle.file.proofs.RecordParts.{taken, takes-unknown-state, takes-repeated-state, takes-state}
 use borrow.Author.Needs.{needs}

@@ -2,7 +2,7 @@
 use mathlib.Core.Path.{refl}
 use denote.Ref.{now}
 use Rattle.file.specs.declared.Progress.the-variants.{Refused, Whole}
-use Rattle.file.specs.Taking.{takes}
+use Rattle.format.specs.File.{takes}
 use Rattle.file.proofs.RecordParts.{taken, record-taken}
 use borrow.Author.Needs.{needs}
 use Rattle.file.proofs.taking.take_record.Statement.{statement}

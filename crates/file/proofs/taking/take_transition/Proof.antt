@@ -11,7 +11,7 @@ use borrow.Author.Tests.{not-true, not-false}
 use Rattle.automaton.proofs.InRange.{and-three}
 use Rattle.automaton.proofs.Tests.{is-true}
 use Rattle.file.specs.declared.Progress.the-variants.{Refused, Goes}
-use Rattle.file.specs.File.{next}
+use Rattle.format.specs.File.{next}
 use Rattle.file.specs.Taking.{wholeOf}
 use Rattle.file.proofs.RecordParts.{taken, takes-unknown, takes-repeated, takes-transition}
 use Rattle.file.proofs.taking.take_transition.Statement.{statement}

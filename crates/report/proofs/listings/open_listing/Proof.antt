@@ -36,7 +36,7 @@ returns c =
     let a = c .before .before .before .before .before .before .before .before .before .before .before .before in
     lined-as
     (listing-opened (now (a .args .first)) (now (a .args .offer)) (a .args .bound) (o .before .fresh .result) (o .open-entry .result)
-    (o .before .fresh .ensures) (o .open-entry .ensures) (t .enum-told .given .1))
+    (o .before .fresh .ensures) (o .open-entry .ensures .0) (t .enum-told .given .1))
     (k .offer-listing .ensures)
 
 same-length-2 : tie.Need-same-length-2
@@ -50,7 +50,7 @@ returns-2 c =
     let a = c .before .before .before .before .before .before .before .before .before .before .before .before .before in
     lined-as
     (listing-refused (now (a .args .first)) (now (a .args .offer)) (a .args .bound) (o .before .fresh .result) (o .open-entry .result)
-    (o .before .fresh .ensures) (o .open-entry .ensures) (t .answer .given .1))
+    (o .before .fresh .ensures) (o .open-entry .ensures .0) (t .answer .given .1))
     (lined-more (omega arith) (a .pre) (k .refused-line .ensures))
 
 pub open-listing-spec : {M : Type 1} → statement M

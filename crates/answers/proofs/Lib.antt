@@ -1,0 +1,10 @@
+-- Laws of checks in order, the table of contain, and demands 1 and 2.
+pub mod ChecksLaws
+pub mod FileRows
+pub mod WalkRows
+pub mod ContainTable
+pub mod ContainLeaves
+pub mod ContainAnswers
+pub mod ShownWords
+pub mod ContainTheorem
+pub mod ContainDemand

@@ -1,0 +1,6 @@
+-- Contain (01, "Contain"): checks, answers, table, demands 1 and 2.
+pub mod Checks
+pub mod Contain
+pub mod Table
+pub mod Demand2
+pub mod Demand1

@@ -1,2 +1,0 @@
--- Dead ends, computed (01, "Dead ends").
-pub mod DeadEnds

@@ -1,0 +1,2 @@
+-- The computed set has exactly the dead states.
+pub mod DeadRight

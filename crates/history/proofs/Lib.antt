@@ -1,0 +1,21 @@
+-- Laws of entries, what open, offer and verdict answer and leave, and demand 3.
+pub mod EntryLaws
+pub mod EntryChecks
+pub mod FileConditions
+pub mod OpenTable
+pub mod OfferWalks
+pub mod OfferCases
+pub mod OfferTable
+pub mod VerdictTable
+pub mod OpenAnswers
+pub mod OfferAnswers
+pub mod VerdictAnswers
+pub mod EntryEffects
+pub mod OfferBuffers
+pub mod OfferShows
+pub mod OpenEffects
+pub mod OfferEffects
+pub mod Simulated
+pub mod Editions
+pub mod DemandThree
+pub mod CallDemands

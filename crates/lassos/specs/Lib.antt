@@ -1,0 +1,2 @@
+-- The lasso verdict, computed (01, "Verdict").
+pub mod Verdict

@@ -1,2 +1,0 @@
--- Relations on the states and their transitive closure.
-pub mod Closure
