@@ -7,3 +7,4 @@ pub mod FileStops
 pub mod FileBytes
 pub mod FileRefusals
 pub mod AnyOrder
+pub mod SmallExamples
