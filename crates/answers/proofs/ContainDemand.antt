@@ -19,7 +19,7 @@ use Rattle.slots.specs.Slots.{slotCount}
 use Rattle.graph.specs.Discovery.{Graph, Node, Walk, going, ended, full, nodesOf}
 use Rattle.graph.specs.LagGraph.{maxBound, lagGraph}
 use Rattle.graph.specs.Walks.{walkOf, workAfter, wordOf, NeedsMore}
-use Rattle.graph.proofs.Visits.{Extends}
+use Rattle.graph.proofs.Discoveries.{Extends}
 use Rattle.graph.proofs.WalkTheorem.{walk-full, walk-full-front}
 use Rattle.graph.proofs.ListExists.{list-exists}
 use Rattle.answers.specs.declared.Outcome.the-variants.{Compared}

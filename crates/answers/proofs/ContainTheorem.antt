@@ -31,11 +31,11 @@ use Rattle.answers.specs.declared.Comparison.the-variants.{Differs, NoRo
 use Rattle.answers.specs.Checks.{None}
 use Rattle.answers.specs.Contain.{contained, differs, noSlots, noRoom, compareWith, comparison, Contain, comparing, afterWalk, deciding, containing, outcomeOf, wordBuffer}
 use Rattle.answers.specs.Table.{Final, Whole, containRows}
-use Rattle.answers.specs.Demand2.{Passing, ListFits, Shown, Demand2}
+use Rattle.answers.specs.Demand2.{Passing, ListFits, Difference, Demand2}
 use Rattle.answers.proofs.ChecksLaws.{none-fewer}
 use Rattle.answers.proofs.FileRows.{file-dead, both-of}
 use Rattle.answers.proofs.WalkRows.{going-enough, ended-enough}
-use Rattle.answers.proofs.ShownWords.{written-shown}
+use Rattle.answers.proofs.DifferenceWords.{written-shown}
 use Rattle.answers.proofs.ContainAnswers.{contain-answer}
 
 -- what an outcome carries
@@ -209,18 +209,18 @@ module _ (f g : List ℕ) (b : ℕ) (work word : List ℕ) where
 
   shown : (i len : ℕ) → outcomeOf f g b work word ≡ differs i len
       → (p : Passing f g b (λ A B. Final A B b S (λ ns n. (i ≡ length ns) × (len ≡ length (wordOf A B b ns n)))))
-      → Shown (p .first) (p .second) b S i len (wordBuffer f g b work word)
+      → Difference (p .first) (p .second) b S i len (wordBuffer f g b work word)
   shown i len e p =
       let w = p .condition in
       let v = wordOf (p .first) (p .second) b (w .nodes) (w .last) in
       let d = walk-ended (p .first) (p .second) b S (w .nodes) (w .last) .1 (w .fits) in
       let room = differs-room (leb (length v) (length word)) i len (length (w .nodes)) (length v)
       (sym (passing-outcome p (ended (w .nodes) (w .last)) d) ∙ e) in
-      subst (Shown (p .first) (p .second) b S i len) (sym (passing-word p (w .nodes) (w .last) d))
+      subst (Difference (p .first) (p .second) b S i len) (sym (passing-word p (w .nodes) (w .last) d))
       (written-shown word (file-in-range g (p .second) (p .second-read)) (w .fits) (w .condition .0) (w .condition .1) room)
 
   differs-shows : (i len : ℕ) → outcomeOf f g b work word ≡ differs i len
-      → Passing f g b (λ A B. Shown A B b S i len (wordBuffer f g b work word))
+      → Passing f g b (λ A B. Difference A B b S i len (wordBuffer f g b work word))
   differs-shows i len e = let p = says-differs i len e in passing-with p (shown i len e p)
 
   -- the test for room, of a walk that ends with a final vertex

@@ -5,6 +5,6 @@ pub mod WalkRows
 pub mod ContainTable
 pub mod ContainLeaves
 pub mod ContainAnswers
-pub mod ShownWords
+pub mod DifferenceWords
 pub mod ContainTheorem
 pub mod ContainDemand

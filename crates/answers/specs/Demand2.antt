@@ -1,10 +1,10 @@
 -- Demand 2 of contain: the walk's answers are exactly right, and a difference comes with a word that shows it (01, "The walk" and "Contain").
 --   Passing f g b P     the two files pass every check before the walk, and P holds of their automata
 --   ListFits A B b S    the discovery list fits S slots
---   Shown               what "differs", with place i and a word of so many letters, comes with: the final vertex at place i of the list,
+--   Difference               what "differs", with place i and a word of so many letters, comes with: the final vertex at place i of the list,
 --                       and its word, which stands in front in the word buffer, has that length and shows the difference
 --   Demand2             the claim about one call
--- Shown by `demand-2`. Assumes nothing.
+-- Difference by `demand-2`. Assumes nothing.
 use mathlib.Core.Path.{_≡_}
 use mathlib.Core.List.{List}
 use mathlib.Core.Logic.{_⊎_, _↔_}
@@ -36,7 +36,7 @@ pub record Passing (f g : List ℕ) (b : ℕ) (P : Automaton → Automaton → T
 unfoldable pub ListFits : Automaton → Automaton → ℕ → ℕ → Type 0
 ListFits A B b S = (w : Walk Vertex) × Fits A B b S w
 
-pub record Shown (A B : Automaton) (b S i len : ℕ) (buffer : List ℕ) : Type 0 where
+pub record Difference (A B : Automaton) (b S i len : ℕ) (buffer : List ℕ) : Type 0 where
   pub nodes : List (Node Vertex)
   pub last : Node Vertex
   pub fits : Fits A B b S (ended nodes last)
@@ -67,7 +67,7 @@ module _ (f g : List ℕ) (b : ℕ) (work word : List ℕ) where
         ↔ Passing f g b (λ A B. Final A B b slots (λ ns n. length word < length (wordOf A B b ns n)))
     -- "differs" comes with a word that shows it
     pub differs-shows : (i len : ℕ) → outcomeOf f g b work word ≡ differs i len
-        → Passing f g b (λ A B. Shown A B b slots i len (wordBuffer f g b work word))
+        → Passing f g b (λ A B. Difference A B b slots i len (wordBuffer f g b work word))
     -- 11 gives the length that the word needs, which is more than the buffer has
     pub no-room-length : (len : ℕ) → outcomeOf f g b work word ≡ noRoom len
         → Passing f g b (λ A B. Final A B b slots (λ ns n. (len ≡ length (wordOf A B b ns n)) × (length word < len)))

@@ -156,7 +156,7 @@ bytes-of-entry s e small =
     )
     (nine-in-front s long)
 
--- a loop that copies 2,048 bytes t to the front of d: a turn, and the end
+-- a loop that copies 2,048 bytes t to the front of d: a round, and the end
 pub copied-one-more : (d l t : List ℕ) (i x : ℕ) → l ≡ paste d 0 t i → i < length d → i < length t → x ≡ getD t i 0
     → set l i x ≡ paste d 0 t (i + 1)
 copied-one-more d l t i x e h k q =

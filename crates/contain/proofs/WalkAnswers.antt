@@ -12,7 +12,7 @@ use Rattle.walk.specs.declared.Walked.{Walked}
 use Rattle.walk.specs.declared.Walked.the-variants as answer
 use Rattle.graph.specs.Discovery.{Node, Walk, going, ended, full}
 use Rattle.graph.specs.Walks.{walkOf, workAfter, wordOf, wordAfter}
-use Rattle.walk.specs.Shown.{walkedOf, FoundFinal}
+use Rattle.walk.specs.Representation.{walkedOf, FoundFinal}
 use Rattle.answers.specs.declared.Comparison.the-variants.{Contained, NoSlots}
 use Rattle.answers.specs.Contain.{differing, comparison, walkWord}
 

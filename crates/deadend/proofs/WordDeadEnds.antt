@@ -14,7 +14,7 @@ use Rattle.automaton.specs.Ranges.{some, table}
 use Rattle.automaton.specs.Sets.{bit, member}
 use Rattle.automaton.specs.Automata.{accepts, transition, transitionBit, InRange}
 use Rattle.automaton.specs.Members.{transitionIn}
-use Rattle.relations.specs.Closure.{related, relation, closure, reaches, holdsRow}
+use Rattle.relations.specs.Closure.{related, relation, closure, reaches, rowHas}
 use Rattle.deadstates.specs.DeadEnds.{edge, paths, live, dead, deadStates, hasDead}
 use Rattle.automaton.proofs.Tests.{or-cases, T-true, not-T-false}
 use Rattle.automaton.proofs.Ranges.{table-at}
@@ -32,8 +32,8 @@ module _ (A : Automaton) (c : InRange A) where
 
   module _ (rows : List ℕ)
       (e-rows : (q r : ℕ) → q < A .states
-      → holdsRow rows q r ≡ (ltb r ((A .states + 7) / 8 * 8) && some (λ a. transitionIn (A .transitions) q a r) (A .letters) 0)) where
-    edge-at : (q r : ℕ) → q < A .states → r < A .states → holdsRow rows q r ≡ edge A q r
+      → rowHas rows q r ≡ (ltb r ((A .states + 7) / 8 * 8) && some (λ a. transitionIn (A .transitions) q a r) (A .letters) 0)) where
+    edge-at : (q r : ℕ) → q < A .states → r < A .states → rowHas rows q r ≡ edge A q r
     unfolding edge
     edge-at q r hq hr =
         e-rows q r hq
@@ -41,15 +41,15 @@ module _ (A : Automaton) (c : InRange A) where
         (lt-ltb r ((A .states + 7) / 8 * 8) (omega arith))
         ∙ some-same _ _ (A .letters) (λ a ha. transition-at q a r hq ha hr)
 
-    edges-table : relation (A .states) (holdsRow rows) ≡ relation (A .states) (edge A)
+    edges-table : relation (A .states) (rowHas rows) ≡ relation (A .states) (edge A)
     unfolding relation
     edges-table =
-        table-same _ _ (A .states) (λ q hq. table-same (holdsRow rows q) (edge A q) (A .states) (λ r hr. edge-at q r hq hr))
+        table-same _ _ (A .states) (λ q hq. table-same (rowHas rows q) (edge A q) (A .states) (λ r hr. edge-at q r hq hr))
 
     module _ (closed : List ℕ)
         (e-closed : (p q : ℕ) → p < A .states → q < A .states
-        → holdsRow closed p q ≡ related (closure (A .states) (relation (A .states) (holdsRow rows))) p q) where
-      path-at : (p q : ℕ) → p < A .states → q < A .states → holdsRow closed p q ≡ related (paths A) p q
+        → rowHas closed p q ≡ related (closure (A .states) (relation (A .states) (rowHas rows))) p q) where
+      path-at : (p q : ℕ) → p < A .states → q < A .states → rowHas closed p q ≡ related (paths A) p q
       unfolding paths
       path-at p q hp hq =
           e-closed p q hp hq ∙ ap (λ (R : List (List Bool)). related (closure (A .states) R) p q) edges-table
@@ -58,32 +58,32 @@ module _ (A : Automaton) (c : InRange A) where
 
       module _ (accepting loops : ℕ)
           (e-accepting : (q : ℕ) → q < 32 → bit accepting q ≡ member (A .accepting) q)
-          (e-loops : (q : ℕ) → bit loops q ≡ (ltb q (A .states) && (bit accepting q && holdsRow closed q q))) where
+          (e-loops : (q : ℕ) → bit loops q ≡ (ltb q (A .states) && (bit accepting q && rowHas closed q q))) where
         loop-at : (q : ℕ) → q < A .states → bit loops q ≡ (accepts A q && related (paths A) q q)
         unfolding accepts
         loop-at q h =
             let few = c .few-states in
             let below : ltb q (A .states) ≡ true = lt-ltb q (A .states) h in
             e-loops q
-            ∙ ap (λ (b : Bool). b && (bit accepting q && holdsRow closed q q)) below
+            ∙ ap (λ (b : Bool). b && (bit accepting q && rowHas closed q q)) below
             ∙ ap₂ _&&_ (e-accepting q (omega arith) ∙ sym (ap (λ (b : Bool). b && member (A .accepting) q) below)) (path-at q q h h)
 
         no-loop-past : (q : ℕ) → A .states ≤ q → bit loops q ≡ false
-        no-loop-past q h = e-loops q ∙ ap (λ (b : Bool). b && (bit accepting q && holdsRow closed q q)) (le-ltb q (A .states) h)
+        no-loop-past q h = e-loops q ∙ ap (λ (b : Bool). b && (bit accepting q && rowHas closed q q)) (le-ltb q (A .states) h)
 
         -- The dead states.
 
         module _ (joined : List ℕ)
-            (e-joined : (p q : ℕ) → p < A .states → holdsRow joined p q ≡ (eqb p q || holdsRow closed p q)) where
-          reached-at : (p q : ℕ) → p < A .states → q < A .states → holdsRow joined p q ≡ reaches (paths A) p q
+            (e-joined : (p q : ℕ) → p < A .states → rowHas joined p q ≡ (eqb p q || rowHas closed p q)) where
+          reached-at : (p q : ℕ) → p < A .states → q < A .states → rowHas joined p q ≡ reaches (paths A) p q
           reached-at p q hp hq = e-joined p q hp ∙ ap (λ (b : Bool). eqb p q || b) (path-at p q hp hq)
 
-          live-at : (q : ℕ) → q < A .states → some (λ r. holdsRow joined q r && bit loops r) 32 0 ≡ live A (paths A) q
+          live-at : (q : ℕ) → q < A .states → some (λ r. rowHas joined q r && bit loops r) 32 0 ≡ live A (paths A) q
           unfolding live
           live-at q h =
               some-cut _ _ (A .states) 32 (c .few-states)
               (λ r hr. ap₂ _&&_ (reached-at q r h hr) (loop-at r hr))
-              (λ r hr. ap (λ (b : Bool). holdsRow joined q r && b) (no-loop-past r hr) ∙ and-false (holdsRow joined q r))
+              (λ r hr. ap (λ (b : Bool). rowHas joined q r && b) (no-loop-past r hr) ∙ and-false (rowHas joined q r))
             where
               and-false : (b : Bool) → (b && false) ≡ false
               and-false true = refl
@@ -101,13 +101,13 @@ module _ (A : Automaton) (c : InRange A) where
 
           pub dead-at : (w : ℕ)
               → ((q : ℕ) → bit w q ≡ (ltb q (A .states)
-              && (holdsRow joined (A .initial) q && not (some (λ r. holdsRow joined q r && bit loops r) 32 0))))
+              && (rowHas joined (A .initial) q && not (some (λ r. rowHas joined q r && bit loops r) 32 0))))
               → (q : ℕ) → q < 32 → bit w q ≡ getD (deadStates A) q false
           unfolding dead deadStates
           dead-at w e q h = go (ltb q (A .states)) refl ∙ sym (table-at (dead A (paths A)) 32 q false h)
             where
               found : Bool
-              found = holdsRow joined (A .initial) q && not (some (λ r. holdsRow joined q r && bit loops r) 32 0)
+              found = rowHas joined (A .initial) q && not (some (λ r. rowHas joined q r && bit loops r) 32 0)
 
               go : (b : Bool) → ltb q (A .states) ≡ b → bit w q ≡ dead A (paths A) q
               go true d =

@@ -16,7 +16,7 @@ ghost use Rattle.automaton.specs.Ranges.{some, table};
 ghost use Rattle.automaton.specs.Sets.{bit, leastMembers};
 ghost use Rattle.automaton.specs.Automata.{InRange};
 ghost use Rattle.automaton.specs.Members.{transitionIn};
-ghost use Rattle.relations.specs.Closure.{holdsRow};
+ghost use Rattle.relations.specs.Closure.{rowHas};
 ghost use Rattle.deadstates.specs.DeadEnds.{deadStates, hasDead};
 
 // Byte b of the targets of q on the first k letters together.
@@ -75,7 +75,7 @@ fn edges(table: &[u8; 256], transitions: &[u8; 2048], bytes: usize, k: usize, q:
 fn edge_rows(transitions: &[u8; 2048], n: usize, k: usize, rows: &mut [u32])
     requires { ⌜ (n ≤ 32) × (k ≤ 16) × (n ≤ length (now rows)) ⌝ }
     ensures first { λ _. ⌜
-        ((q r : ℕ) → q < n → holdsRow (now (rows .exit)) q r
+        ((q r : ℕ) → q < n → rowHas (now (rows .exit)) q r
         ≡ (ltb r ((n + 7) / 8 * 8) && some (λ a. transitionIn (now (transitions .entry)) q a r) k 0))
         ⌝ }
     ensures others { λ _. ⌜ ((q : ℕ) → n ≤ q → getD (now (rows .exit)) q 0 ≡ getD (now (rows .entry)) q 0) ⌝ }
@@ -94,8 +94,8 @@ fn loops_at(accepting: u32, row: u32, q: usize) -> bool
     requires { ⌜ q < 32 ⌝ }
     ensures { λ b. ⌜ b ≡ (bit accepting q && bit row q) ⌝ }
 {
-    if relations::holds(accepting, q) {
-        relations::holds(row, q)
+    if relations::has(accepting, q) {
+        relations::has(row, q)
     } else {
         false
     }
@@ -104,7 +104,7 @@ fn loops_at(accepting: u32, row: u32, q: usize) -> bool
 // The accepting states of the first n that lie on a loop.
 fn on_loops(rows: &[u32], n: usize, accepting: u32) -> u32
     requires { ⌜ (n ≤ 32) × (n ≤ length (now rows)) ⌝ }
-    ensures { λ w. ⌜ ((q : ℕ) → bit w q ≡ (ltb q n && (bit accepting q && holdsRow (now (rows .entry)) q q))) ⌝ }
+    ensures { λ w. ⌜ ((q : ℕ) → bit w q ≡ (ltb q n && (bit accepting q && rowHas (now (rows .entry)) q q))) ⌝ }
 {
     let mut found: u32 = 0;
     let mut q: usize = 0;
@@ -120,7 +120,7 @@ fn dead_at(reached: u32, loops: u32, row: u32, q: usize) -> bool
     requires { ⌜ q < 32 ⌝ }
     ensures { λ b. ⌜ b ≡ (bit reached q && not (some (λ r. bit row r && bit loops r) 32 0)) ⌝ }
 {
-    if relations::holds(reached, q) {
+    if relations::has(reached, q) {
         !relations::meets(row, loops)
     } else {
         false
@@ -132,7 +132,7 @@ fn dead_among(rows: &[u32], n: usize, reached: u32, loops: u32) -> u32
     requires { ⌜ (n ≤ 32) × (n ≤ length (now rows)) ⌝ }
     ensures { λ w. ⌜
         ((q : ℕ) → bit w q
-        ≡ (ltb q n && (bit reached q && not (some (λ r. holdsRow (now (rows .entry)) q r && bit loops r) 32 0))))
+        ≡ (ltb q n && (bit reached q && not (some (λ r. rowHas (now (rows .entry)) q r && bit loops r) 32 0))))
         ⌝ }
 {
     let mut found: u32 = 0;
@@ -168,7 +168,7 @@ fn flags(set: u32) -> [bool; MAX_STATES]
     let mut members = [false; MAX_STATES];
     let mut q: usize = 0;
     while q < MAX_STATES {
-        members[q] = relations::holds(set, q);
+        members[q] = relations::has(set, q);
         q += 1;
     }
     members

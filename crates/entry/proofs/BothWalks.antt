@@ -8,7 +8,7 @@ use Rattle.answers.specs.declared.Comparison.{Comparison}
 use Rattle.answers.specs.declared.Comparison.the-variants.{Contained, Differs, NoSlots, NoRoom}
 use Rattle.answers.specs.Contain.{comparing}
 use Rattle.history.specs.declared.OfferAnswer.{OfferAnswer}
-use Rattle.history.specs.Offers.{Walks, backAnswer, offerAnswer, lastLeft, walksOf, walksAnswer, walksWork, walksWord}
+use Rattle.history.specs.Offers.{Walks, backAnswer, offerAnswer, lastMade, walksOf, walksAnswer, walksWork, walksWord}
 
 -- the walk does not find containment
 abbrev pub Decides : Comparison → Type 0
@@ -26,10 +26,10 @@ module _ (H B : Automaton) (b : ℕ) (work word : List ℕ) where
   left-answer a = offerAnswer a (both .back .answer)
 
   abbrev left-work : Comparison → List ℕ
-  left-work a = lastLeft a (both .forward .work) (both .back .work)
+  left-work a = lastMade a (both .forward .work) (both .back .work)
 
   abbrev left-word : Comparison → List ℕ
-  left-word a = lastLeft a (both .forward .word) (both .back .word)
+  left-word a = lastMade a (both .forward .word) (both .back .word)
 
   -- answer and buffers of both walks
   abbrev pub Gives : OfferAnswer → List ℕ → List ℕ → Type 0

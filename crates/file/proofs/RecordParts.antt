@@ -24,15 +24,15 @@ use Rattle.file.specs.declared.Start.the-variants.{NoHeader, Begins}
 use Rattle.file.specs.declared.Progress.{Progress}
 use Rattle.file.specs.declared.Progress.the-variants.{Refused, Whole, Goes}
 use Rattle.format.specs.File.{Read, Step, over, next, refused, holds, check, header, takes, recordAt, records, readFile}
-use Rattle.file.specs.Taking.{wholeOf, startStep, progressStep, readPast, leftBy, Taken}
+use Rattle.file.specs.Taking.{wholeOf, startStep, progressStep, readPast, automatonAfter, Taken}
 use Rattle.format.proofs.RecordSteps.{HeaderStep, no-header, starts, header-step, record-advances}
 use Rattle.format.proofs.RecordSteps.{readAfter, read-file, read-over, read-next}
 
 -- The step of a record that was read.
 
 -- what a record came to, with B left of A
-pub taken : {x : Step} (p : Progress) {A B : Automaton} → x ≡ progressStep p B → leftBy (progressStep p B) A ≡ B → Taken x p A B
-taken p {A} e l = record { step = e; left = sym (ap (λ y. leftBy y A) e ∙ l) }
+pub taken : {x : Step} (p : Progress) {A B : Automaton} → x ≡ progressStep p B → automatonAfter (progressStep p B) A ≡ B → Taken x p A B
+taken p {A} e l = record { step = e; left = sym (ap (λ y. automatonAfter y A) e ∙ l) }
 
 pub record-taken : (s : List ℕ) (i : ℕ) (A : Automaton) (x y : Record) {p : Progress} {B : Automaton} → x ≡ recordIn s i → x ≡ y
     → Taken (takes y A) p A B → Taken (recordAt s i A) p A B

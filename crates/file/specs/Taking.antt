@@ -4,7 +4,7 @@
 --   startStep x        what the first record comes to, as a step of the reading
 --   readPast s h       what the file s holds, read on from its header h
 --   progressStep p A   what a record came to, as a step of the reading, with A the automaton after it
---   leftBy x A         the automaton after the step x, with A before it: a refusal and the end leave it as it is
+--   automatonAfter x A         the automaton after the step x, with A before it: a refusal and the end leave it as it is
 --   Taken x p A B      the step x came to p, and left B of A
 --   readingOf r        what the reader's struct holds of r: with a refusal its automaton is bare
 -- Only contracts between functions name these. Shown by `reading-advances`, `reading-ends` and `reading-refused`: how the reading goes on after
@@ -38,13 +38,13 @@ progressStep (Refused n) A = over (refused n)
 progressStep Whole A = over (holds A)
 progressStep (Goes j) A = next j A
 
-abbrev pub leftBy : Step → Automaton → Automaton
-leftBy (over r) A = A
-leftBy (next i B) A = B
+abbrev pub automatonAfter : Step → Automaton → Automaton
+automatonAfter (over r) A = A
+automatonAfter (next i B) A = B
 
 pub record Taken (x : Step) (p : Progress) (A B : Automaton) : Type 0 where
   pub step : x ≡ progressStep p B
-  pub left : B ≡ leftBy x A
+  pub left : B ≡ automatonAfter x A
 
 abbrev pub readingOf : Read → Reading
 readingOf (refused n) = record { refusal = n; automaton = bare 0 0 0 }

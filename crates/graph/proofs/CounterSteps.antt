@@ -17,7 +17,7 @@ use Rattle.automaton.proofs.Ranges.{table-at, length-table, some-below, some-at
 use Rattle.automaton.proofs.Transitions.{transition-from}
 use Rattle.runs.proofs.LagSteps.{next}
 use Rattle.graph.specs.LagGraph.{counter, stepped}
-use Rattle.graph.proofs.Visits.{lt-or-le}
+use Rattle.graph.proofs.Discoveries.{lt-or-le}
 
 module _ (A B : Automaton) (b : ℕ) where
   -- the predecessors of r on letter a with a counter above 0

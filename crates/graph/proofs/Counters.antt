@@ -21,7 +21,7 @@ use Rattle.slots.specs.Slots.{allZero}
 use Rattle.slots.proofs.Vertices.{not-all-zero, all-zero-at}
 use Rattle.graph.specs.LagGraph.{initialCounter, initialVertex, stepped}
 use Rattle.graph.specs.Meaning.{countersFrom, countersAfter}
-use Rattle.graph.proofs.Visits.{lt-or-le}
+use Rattle.graph.proofs.Discoveries.{lt-or-le}
 use Rattle.graph.proofs.CounterSteps.{counter-from, counter-to, stepped-at, length-stepped}
 
 module _ (A B : Automaton) (b : ℕ) where

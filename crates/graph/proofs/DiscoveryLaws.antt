@@ -1,5 +1,5 @@
 -- The discovery list lists every vertex that can be reached, and none of them is final, unless it ends with a final vertex: after
--- the turns of the places below p, their vertices' successors are listed, each found from its first such place. Assumes nothing.
+-- the places below p are expanded, their vertices' successors are listed, each found from its first such place. Assumes nothing.
 use mathlib.Core.Path.{_≡_, refl, sym, ap, subst}
 use mathlib.Core.Bool.{Bool, true, false, _||_}
 use mathlib.Core.Logic.{_⊎_, inl, inr, ⊎-elim}
@@ -9,9 +9,9 @@ use native.Mathlib.Nat.{zero-add, add-zero}
 use native.Mathlib.Omega.{arith}
 use lib.ListN.{length}
 use Rattle.slots.specs.Slots.{noLetter, noParent}
-use Rattle.graph.specs.Discovery.{Graph, Path, stay, along, Node, Walk, going, ended, full, nodesOf, node, always, listed, visit, visits, successorsAt, turn, turns, begin, DiscoveryList, all, final, root, at}
-use Rattle.graph.proofs.Visits.{Visited, known, ends, stored, no-slot, visited, Extends, visits-extends, visits-ended, visits-full, extends-snoc, length-snoc, at-last, lt-or-le, successors-in, successors-past}
-use Rattle.graph.proofs.Parents.{Linked, Plain, During, linked-raise, plain-raise, linked-root, plain-empty, visits-during}
+use Rattle.graph.specs.Discovery.{Graph, Path, stay, along, Node, Walk, going, ended, full, nodesOf, node, always, listed, discover, discoverAll, successorsAt, expand, expandAll, begin, DiscoveryList, all, final, root, at}
+use Rattle.graph.proofs.Discoveries.{DiscoverCase, known, ends, appended, no-slot, discover-case, Extends, discover-all-extends, discover-all-ended, discover-all-full, extends-snoc, length-snoc, at-last, lt-or-le, successors-in, successors-past}
+use Rattle.graph.proofs.Parents.{Linked, Plain, During, linked-raise, plain-raise, linked-root, plain-empty, discover-all-during}
 use Rattle.graph.specs.Discovery.{withFinal}
 
 -- a place of a vertex
@@ -30,7 +30,7 @@ Closed G p ns =
     (i : ℕ) → i < p → i < length ns
     → (e : ℕ × G .Vertices) → List·Memᴰ e (G .successors (at G ns i .vertex)) → Seen G ns i (e .1)
 
--- how a list that goes on stands before the turn of place p
+-- how a list that goes on stands before place p is expanded
 pub record Open (G : Graph) (p : ℕ) (ns : List (Node (G .Vertices))) : Type 0 where
   pub plain : Plain G p ns
   pub closed : Closed G p ns
@@ -43,7 +43,7 @@ pub record Ended (G : Graph) (ns : List (Node (G .Vertices))) (n : Node (G .Vert
   pub linked : Linked G (n .parent) (ns ++ n ∷ [])
   pub is-final : G .final (n .vertex) ≡ true
 
--- how a walk stands before the turn of place p
+-- how a walk stands before place p is expanded
 abbrev pub Before : (G : Graph) → ℕ → Walk (G .Vertices) → Type 0
 Before G p (going ns) = Open G p ns
 Before G p (ended ns n) = Ended G ns n
@@ -63,22 +63,22 @@ module _ (G : Graph) (free : ℕ → Bool) (p : ℕ) where
   has-extends : (ns ms : List (Node (G .Vertices))) (x : G .Vertices) → Extends G ns ms → Has G ns x → Has G ms x
   has-extends ns ms x a h = (h .0, omega (arith, a .longer, h .1), rw (a .same (h .0) (h .1)) (h .2))
 
-  visited-keeps : (x : G .Vertices) (ns : List (Node (G .Vertices))) (e : ℕ × G .Vertices) (w : Walk (G .Vertices))
-      → Visited G free p ns e w → Has G ns x → HasIf G x w
-  visited-keeps x ns e w (known a) h = h
-  visited-keeps x ns e w (ends a b) h = tt
-  visited-keeps x ns e w (stored a b c) h = has-extends ns (ns ++ node e p ∷ []) x (extends-snoc G ns (node e p)) h
-  visited-keeps x ns e w (no-slot a b c) h = tt
+  discover-case-keeps : (x : G .Vertices) (ns : List (Node (G .Vertices))) (e : ℕ × G .Vertices) (w : Walk (G .Vertices))
+      → DiscoverCase G free p ns e w → Has G ns x → HasIf G x w
+  discover-case-keeps x ns e w (known a) h = h
+  discover-case-keeps x ns e w (ends a b) h = tt
+  discover-case-keeps x ns e w (appended a b c) h = has-extends ns (ns ++ node e p ∷ []) x (extends-snoc G ns (node e p)) h
+  discover-case-keeps x ns e w (no-slot a b c) h = tt
 
-  visit-keeps : (x : G .Vertices) (w : Walk (G .Vertices)) (e : ℕ × G .Vertices) → HasIf G x w → HasIf G x (visit G free p w e)
-  visit-keeps x (going ns) e h = visited-keeps x ns e (visit G free p (going ns) e) (visited G free p ns e) h
-  visit-keeps x (ended ns n) e h = tt
-  visit-keeps x (full ns) e h = tt
+  discover-keeps : (x : G .Vertices) (w : Walk (G .Vertices)) (e : ℕ × G .Vertices) → HasIf G x w → HasIf G x (discover G free p w e)
+  discover-keeps x (going ns) e h = discover-case-keeps x ns e (discover G free p (going ns) e) (discover-case G free p ns e) h
+  discover-keeps x (ended ns n) e h = tt
+  discover-keeps x (full ns) e h = tt
 
-  visits-keep : (x : G .Vertices) (es : List (ℕ × G .Vertices)) (w : Walk (G .Vertices))
-      → HasIf G x w → HasIf G x (visits G free p w es)
-  visits-keep x [] w h = h
-  visits-keep x (e ∷ es) w h = visits-keep x es (visit G free p w e) (visit-keeps x w e h)
+  discover-all-keep : (x : G .Vertices) (es : List (ℕ × G .Vertices)) (w : Walk (G .Vertices))
+      → HasIf G x w → HasIf G x (discoverAll G free p w es)
+  discover-all-keep x [] w h = h
+  discover-all-keep x (e ∷ es) w h = discover-all-keep x es (discover G free p w e) (discover-keeps x w e h)
 
 module _ (G : Graph) (sound : (u v : G .Vertices) → G .same u v ≡ true → u ≡ v) where
   pub listed-has : (v : G .Vertices) (ns : List (Node (G .Vertices))) → listed G v ns ≡ true → Has G ns v
@@ -100,26 +100,26 @@ module _ (G : Graph) (sound : (u v : G .Vertices) → G .same u v ≡ true → u
       }
 
   module _ (free : ℕ → Bool) where
-    visit-has : (p : ℕ) (w : Walk (G .Vertices)) (e : ℕ × G .Vertices) → HasIf G (e .1) (visit G free p w e)
-    visit-has p (going ns) e = go (visit G free p (going ns) e) (visited G free p ns e)
+    discover-has : (p : ℕ) (w : Walk (G .Vertices)) (e : ℕ × G .Vertices) → HasIf G (e .1) (discover G free p w e)
+    discover-has p (going ns) e = go (discover G free p (going ns) e) (discover-case G free p ns e)
       where
-        go : (w : Walk (G .Vertices)) → Visited G free p ns e w → HasIf G (e .1) w
+        go : (w : Walk (G .Vertices)) → DiscoverCase G free p ns e w → HasIf G (e .1) w
         go w (known x) = listed-has (e .1) ns x
         go w (ends x y) = tt
-        go w (stored x y z) =
+        go w (appended x y z) =
             let q = at-last G ns (node e p) (length ns) refl in
             (length ns, omega (arith, length-snoc G ns (node e p)), ap (λ (n : Node (G .Vertices)). n .vertex) q)
         go w (no-slot x y z) = tt
-    visit-has p (ended ns n) e = tt
-    visit-has p (full ns) e = tt
+    discover-has p (ended ns n) e = tt
+    discover-has p (full ns) e = tt
 
-    visits-have : (p : ℕ) (e : ℕ × G .Vertices) (es : List (ℕ × G .Vertices)) (w : Walk (G .Vertices))
-        → List·Memᴰ e es → HasIf G (e .1) (visits G free p w es)
-    visits-have p e es w (List·Memᴰ·head {x = d} {xs = ds} q) =
-        visits-keep G free p (e .1) ds (visit G free p w d) (rw q (visit-has p w d))
-    visits-have p e es w (List·Memᴰ·tail {x = d} {xs = ds} m) = visits-have p e ds (visit G free p w d) m
+    discover-all-have : (p : ℕ) (e : ℕ × G .Vertices) (es : List (ℕ × G .Vertices)) (w : Walk (G .Vertices))
+        → List·Memᴰ e es → HasIf G (e .1) (discoverAll G free p w es)
+    discover-all-have p e es w (List·Memᴰ·head {x = d} {xs = ds} q) =
+        discover-all-keep G free p (e .1) ds (discover G free p w d) (rw q (discover-has p w d))
+    discover-all-have p e es w (List·Memᴰ·tail {x = d} {xs = ds} m) = discover-all-have p e ds (discover G free p w d) m
 
-    -- the turn of a listed place, by what its visits came to
+    -- a listed place is expanded, by what its successors came to
     turned : (p : ℕ) (ns : List (Node (G .Vertices))) → p < length ns → Open G p ns → (w : Walk (G .Vertices))
         → Extends G ns (nodesOf w) → During G p w
         → ((e : ℕ × G .Vertices) → List·Memᴰ e (G .successors (at G ns p .vertex)) → HasIf G (e .1) w) → Before G (suc p) w
@@ -153,18 +153,18 @@ module _ (G : Graph) (sound : (u v : G .Vertices) → G .same u v ≡ true → u
         }
     turned p ns hp O (full ms) a F has = plain-raise G p (suc p) ms (omega arith) F
 
-    pub turn-before : (p : ℕ) (w : Walk (G .Vertices)) → Before G p w → Before G (suc p) (turn G free p w)
-    turn-before p (going ns) O = ⊎-elim in-list past (lt-or-le p (length ns))
+    pub expand-before : (p : ℕ) (w : Walk (G .Vertices)) → Before G p w → Before G (suc p) (expand G free p w)
+    expand-before p (going ns) O = ⊎-elim in-list past (lt-or-le p (length ns))
       where
-        in-list : p < length ns → Before G (suc p) (turn G free p (going ns))
+        in-list : p < length ns → Before G (suc p) (expand G free p (going ns))
         in-list h =
             let es = G .successors (at G ns p .vertex) in
             rw (successors-in G ns p h)
-            (turned p ns h O (visits G free p (going ns) es) (visits-extends G free p es (going ns))
-            (visits-during G free p (at G ns p .vertex) es (going ns) h refl (λ e m. m) (O .plain))
-            (λ e m. visits-have p e es (going ns) m))
+            (turned p ns h O (discoverAll G free p (going ns) es) (discover-all-extends G free p es (going ns))
+            (discover-all-during G free p (at G ns p .vertex) es (going ns) h refl (λ e m. m) (O .plain))
+            (λ e m. discover-all-have p e es (going ns) m))
 
-        past : length ns ≤ p → Before G (suc p) (turn G free p (going ns))
+        past : length ns ≤ p → Before G (suc p) (expand G free p (going ns))
         past h =
             rw (successors-past G ns p h)
             (record {
@@ -172,20 +172,20 @@ module _ (G : Graph) (sound : (u v : G .Vertices) → G .same u v ≡ true → u
               closed = λ i k l e m. O .closed i (omega arith) l e m;
               some = O .some;
             })
-    turn-before p (ended ns n) O = rw (visits-ended G free p ns n (successorsAt G ns p)) O
-    turn-before p (full ns) O =
-        rw (visits-full G free p ns (successorsAt G ns p)) (plain-raise G p (suc p) ns (omega arith) O)
+    expand-before p (ended ns n) O = rw (discover-all-ended G free p ns n (successorsAt G ns p)) O
+    expand-before p (full ns) O =
+        rw (discover-all-full G free p ns (successorsAt G ns p)) (plain-raise G p (suc p) ns (omega arith) O)
 
-    turns-before : (k p : ℕ) (w : Walk (G .Vertices)) → Before G p w → Before G (k + p) (turns G free k p w)
-    turns-before zero p w O = rw (zero-add p) O
-    turns-before (suc k) p w O =
-        subst (λ (m : ℕ). Before G m (turns G free (suc k) p w)) (omega arith)
-        (turns-before k (suc p) (turn G free p w) (turn-before p w O))
+    expand-all-before : (k p : ℕ) (w : Walk (G .Vertices)) → Before G p w → Before G (k + p) (expandAll G free k p w)
+    expand-all-before zero p w O = rw (zero-add p) O
+    expand-all-before (suc k) p w O =
+        subst (λ (m : ℕ). Before G m (expandAll G free (suc k) p w)) (omega arith)
+        (expand-all-before k (suc p) (expand G free p w) (expand-before p w O))
 
     begin-before : Before G 0 (begin G free)
-    begin-before = go (begin G free) (visited G free noParent [] (noLetter, G .initial))
+    begin-before = go (begin G free) (discover-case G free noParent [] (noLetter, G .initial))
       where
-        go : (w : Walk (G .Vertices)) → Visited G free noParent [] (noLetter, G .initial) w → Before G 0 w
+        go : (w : Walk (G .Vertices)) → DiscoverCase G free noParent [] (noLetter, G .initial) w → Before G 0 w
         go w (known x) = absurd (let z : _≡_ {A = ℕ} 0 1 = cc in omega arith)
         go w (ends x y) =
             record {
@@ -194,7 +194,7 @@ module _ (G : Graph) (sound : (u v : G .Vertices) → G .same u v ≡ true → u
               linked = linked-root G noParent;
               is-final = y;
             }
-        go w (stored x y z) =
+        go w (appended x y z) =
             record {
               plain = record { linked = linked-root G 0; not-final = not-final };
               closed = λ i a b e m. absurd (omega arith);
@@ -205,9 +205,9 @@ module _ (G : Graph) (sound : (u v : G .Vertices) → G .same u v ≡ true → u
             not-final i h = let q : i ≡ 0 = omega arith in rw q y
         go w (no-slot x y z) = plain-empty G 0
 
-    -- after k turns from the start, with whatever slots are free
-    pub walked-before : (k : ℕ) → Before G k (turns G free k 0 (begin G free))
-    walked-before k = rw (add-zero k) at (turns-before k 0 (begin G free) begin-before)
+    -- after the first k places are expanded, with whatever slots are free
+    pub walked-before : (k : ℕ) → Before G k (expandAll G free k 0 (begin G free))
+    walked-before k = rw (add-zero k) at (expand-all-before k 0 (begin G free) begin-before)
 
   reach-has : (k : ℕ) (ns : List (Node (G .Vertices))) → length ns ≤ k → Open G k ns → (u x : G .Vertices) (w : List ℕ)
       → Path G u w x → Has G ns u → Has G ns x

@@ -1,4 +1,4 @@
--- No vertex is listed twice: a visit appends a vertex only if it is not listed. Assumes nothing.
+-- No vertex is listed twice: discovering appends a vertex only if it is not listed. Assumes nothing.
 use mathlib.Core.Path.{_≡_, refl, sym, _∙_, ap}
 use mathlib.Core.Bool.{Bool, true, false, _||_}
 use mathlib.Core.Logic.{_⊎_, inl, inr}
@@ -7,8 +7,8 @@ use Prim.Native.Nat.{ℕ, zero, suc, _<_}
 use native.Mathlib.Omega.{arith}
 use lib.ListN.{length}
 use Rattle.slots.specs.Slots.{noLetter, noParent}
-use Rattle.graph.specs.Discovery.{Graph, Node, Walk, going, ended, full, nodesOf, node, always, listed, visit, visits, successorsAt, turn, turns, begin, DiscoveryList, all, final, at}
-use Rattle.graph.proofs.Visits.{Visited, known, ends, stored, no-slot, visited, at-left, at-last, before-or-last}
+use Rattle.graph.specs.Discovery.{Graph, Node, Walk, going, ended, full, nodesOf, node, always, listed, discover, discoverAll, successorsAt, expand, expandAll, begin, DiscoveryList, all, final, at}
+use Rattle.graph.proofs.Discoveries.{DiscoverCase, known, ends, appended, no-slot, discover-case, at-left, at-last, before-or-last}
 
 abbrev pub Distinct : (G : Graph) → List (Node (G .Vertices)) → Type 0
 Distinct G ns = (i j : ℕ) → i < j → j < length ns → at G ns i .vertex ≡ at G ns j .vertex → ⊥
@@ -41,34 +41,34 @@ module _ (G : Graph) (same-refl : (v : G .Vertices) → G .same v v ≡ true) wh
           (sym (vertex-at i (omega arith)) ∙ q ∙ ap (λ (x : Node (G .Vertices)). x .vertex) (at-last G ns n j k))
 
   module _ (free : ℕ → Bool) where
-    distinct-visited : (p : ℕ) (ns : List (Node (G .Vertices))) (e : ℕ × G .Vertices) (w : Walk (G .Vertices))
-        → Visited G free p ns e w → Distinct G ns → Distinct G (nodesOf w)
-    distinct-visited p ns e w (known x) D = D
-    distinct-visited p ns e w (ends x y) D = D
-    distinct-visited p ns e w (stored x y z) D = distinct-snoc ns (node e p) x D
-    distinct-visited p ns e w (no-slot x y z) D = D
+    distinct-discover-case : (p : ℕ) (ns : List (Node (G .Vertices))) (e : ℕ × G .Vertices) (w : Walk (G .Vertices))
+        → DiscoverCase G free p ns e w → Distinct G ns → Distinct G (nodesOf w)
+    distinct-discover-case p ns e w (known x) D = D
+    distinct-discover-case p ns e w (ends x y) D = D
+    distinct-discover-case p ns e w (appended x y z) D = distinct-snoc ns (node e p) x D
+    distinct-discover-case p ns e w (no-slot x y z) D = D
 
-    pub visit-distinct : (p : ℕ) (w : Walk (G .Vertices)) (e : ℕ × G .Vertices) → Distinct G (nodesOf w)
-        → Distinct G (nodesOf (visit G free p w e))
-    visit-distinct p (going ns) e D = distinct-visited p ns e (visit G free p (going ns) e) (visited G free p ns e) D
-    visit-distinct p (ended ns n) e D = D
-    visit-distinct p (full ns) e D = D
+    pub discover-distinct : (p : ℕ) (w : Walk (G .Vertices)) (e : ℕ × G .Vertices) → Distinct G (nodesOf w)
+        → Distinct G (nodesOf (discover G free p w e))
+    discover-distinct p (going ns) e D = distinct-discover-case p ns e (discover G free p (going ns) e) (discover-case G free p ns e) D
+    discover-distinct p (ended ns n) e D = D
+    discover-distinct p (full ns) e D = D
 
-    pub visits-distinct : (p : ℕ) (es : List (ℕ × G .Vertices)) (w : Walk (G .Vertices)) → Distinct G (nodesOf w)
-        → Distinct G (nodesOf (visits G free p w es))
-    visits-distinct p [] w D = D
-    visits-distinct p (e ∷ es) w D = visits-distinct p es (visit G free p w e) (visit-distinct p w e D)
+    pub discover-all-distinct : (p : ℕ) (es : List (ℕ × G .Vertices)) (w : Walk (G .Vertices)) → Distinct G (nodesOf w)
+        → Distinct G (nodesOf (discoverAll G free p w es))
+    discover-all-distinct p [] w D = D
+    discover-all-distinct p (e ∷ es) w D = discover-all-distinct p es (discover G free p w e) (discover-distinct p w e D)
 
-    turns-distinct : (k p : ℕ) (w : Walk (G .Vertices)) → Distinct G (nodesOf w) → Distinct G (nodesOf (turns G free k p w))
-    turns-distinct zero p w D = D
-    turns-distinct (suc k) p w D =
-        turns-distinct k (suc p) (turn G free p w) (visits-distinct p (successorsAt G (nodesOf w) p) w D)
+    expand-all-distinct : (k p : ℕ) (w : Walk (G .Vertices)) → Distinct G (nodesOf w) → Distinct G (nodesOf (expandAll G free k p w))
+    expand-all-distinct zero p w D = D
+    expand-all-distinct (suc k) p w D =
+        expand-all-distinct k (suc p) (expand G free p w) (discover-all-distinct p (successorsAt G (nodesOf w) p) w D)
 
-    -- after k turns from the start, with whatever slots are free
-    pub walked-distinct : (k : ℕ) → Distinct G (nodesOf (turns G free k 0 (begin G free)))
+    -- after the first k places are expanded, with whatever slots are free
+    pub walked-distinct : (k : ℕ) → Distinct G (nodesOf (expandAll G free k 0 (begin G free)))
     walked-distinct k =
-        turns-distinct k 0 (begin G free)
-        (visit-distinct noParent (going []) (noLetter, G .initial) (λ i j l h q. absurd (omega arith)))
+        expand-all-distinct k 0 (begin G free)
+        (discover-distinct noParent (going []) (noLetter, G .initial) (λ i j l h q. absurd (omega arith)))
 
   pub list-distinct : (w : Walk (G .Vertices)) → DiscoveryList G w → Distinct G (nodesOf w)
   list-distinct w (all k e h) = rw e at (walked-distinct always k)

@@ -1,5 +1,5 @@
 -- Laws of the discovery list, and the theorem that the walk decides containment.
-pub mod Visits
+pub mod Discoveries
 pub mod Capacity
 pub mod Parents
 pub mod DiscoveryLaws

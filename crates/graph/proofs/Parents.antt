@@ -1,5 +1,5 @@
 -- Each listed node but the first was found along an edge from its parent, which has a lower place, and parents rise with the
--- places. A visit from place p keeps this, since it appends nodes whose parent is p. Assumes nothing.
+-- places. Discovering from place p keeps this, since it appends nodes whose parent is p. Assumes nothing.
 use mathlib.Core.Path.{_≡_, refl, _∙_, ap}
 use mathlib.Core.Bool.{Bool, true, false}
 use mathlib.Core.Logic.{⊎-elim}
@@ -7,8 +7,8 @@ use mathlib.Core.List.{List, [], _∷_, _++_, List·Memᴰ, List·Memᴰ·head, 
 use Prim.Native.Nat.{ℕ, _≤_, _<_}
 use native.Mathlib.Omega.{arith}
 use lib.ListN.{length}
-use Rattle.graph.specs.Discovery.{withFinal, Graph, Node, Walk, going, ended, full, nodesOf, node, visit, visits, root, at}
-use Rattle.graph.proofs.Visits.{Visited, known, ends, stored, no-slot, visited, visit-extends, at-left, at-last, before-or-last}
+use Rattle.graph.specs.Discovery.{withFinal, Graph, Node, Walk, going, ended, full, nodesOf, node, discover, discoverAll, root, at}
+use Rattle.graph.proofs.Discoveries.{DiscoverCase, known, ends, appended, no-slot, discover-case, discover-extends, at-left, at-last, before-or-last}
 
 -- the edge by which the node at place i was found goes from its parent's vertex
 abbrev pub EdgeTo : (G : Graph) → List (Node (G .Vertices)) → ℕ → Type 0
@@ -26,7 +26,7 @@ pub record Plain (G : Graph) (p : ℕ) (ns : List (Node (G .Vertices))) : Type 0
   pub linked : Linked G p ns
   pub not-final : (i : ℕ) → i < length ns → G .final (at G ns i .vertex) ≡ false
 
--- how a walk stands during the turn of place p
+-- how a walk stands while place p is expanded
 abbrev pub During : (G : Graph) → ℕ → Walk (G .Vertices) → Type 0
 During G p (going ns) = Plain G p ns
 During G p (ended ns n) = Plain G p ns × Linked G p (ns ++ n ∷ []) × (n .parent ≡ p) × (G .final (n .vertex) ≡ true)
@@ -107,11 +107,11 @@ module _ (G : Graph) where
       }
 
   module _ (free : ℕ → Bool) (p : ℕ) where
-    visited-during : (ns : List (Node (G .Vertices))) (e : ℕ × G .Vertices) (w : Walk (G .Vertices)) → Visited G free p ns e w
+    discover-case-during : (ns : List (Node (G .Vertices))) (e : ℕ × G .Vertices) (w : Walk (G .Vertices)) → DiscoverCase G free p ns e w
         → p < length ns → List·Memᴰ e (G .successors (at G ns p .vertex)) → Plain G p ns → During G p w
-    visited-during ns e w (known x) hp m F = F
-    visited-during ns e w (ends x y) hp m F = (F, linked-snoc p ns e hp m (F .linked), refl, y)
-    visited-during ns e w (stored x y z) hp m F =
+    discover-case-during ns e w (known x) hp m F = F
+    discover-case-during ns e w (ends x y) hp m F = (F, linked-snoc p ns e hp m (F .linked), refl, y)
+    discover-case-during ns e w (appended x y z) hp m F =
         record {
           linked = linked-snoc p ns e hp m (F .linked);
           not-final = λ i h.
@@ -119,23 +119,23 @@ module _ (G : Graph) where
               (λ q. rw (at-last G ns (node e p) i q) y)
               (before-or-last G ns (node e p) i h);
         }
-    visited-during ns e w (no-slot x y z) hp m F = F
+    discover-case-during ns e w (no-slot x y z) hp m F = F
 
-    pub visit-during : (w : Walk (G .Vertices)) (e : ℕ × G .Vertices) → p < length (nodesOf w)
-        → List·Memᴰ e (G .successors (at G (nodesOf w) p .vertex)) → During G p w → During G p (visit G free p w e)
-    visit-during (going ns) e hp m F =
-        visited-during ns e (visit G free p (going ns) e) (visited G free p ns e) hp m F
-    visit-during (ended ns n) e hp m F = F
-    visit-during (full ns) e hp m F = F
+    pub discover-during : (w : Walk (G .Vertices)) (e : ℕ × G .Vertices) → p < length (nodesOf w)
+        → List·Memᴰ e (G .successors (at G (nodesOf w) p .vertex)) → During G p w → During G p (discover G free p w e)
+    discover-during (going ns) e hp m F =
+        discover-case-during ns e (discover G free p (going ns) e) (discover-case G free p ns e) hp m F
+    discover-during (ended ns n) e hp m F = F
+    discover-during (full ns) e hp m F = F
 
-    -- visits of successors of the vertex u at place p
-    pub visits-during : (u : G .Vertices) (es : List (ℕ × G .Vertices)) (w : Walk (G .Vertices)) → p < length (nodesOf w)
+    -- successors of the vertex u at place p, discovered one after the other
+    pub discover-all-during : (u : G .Vertices) (es : List (ℕ × G .Vertices)) (w : Walk (G .Vertices)) → p < length (nodesOf w)
         → at G (nodesOf w) p .vertex ≡ u → ((e : ℕ × G .Vertices) → List·Memᴰ e es → List·Memᴰ e (G .successors u))
-        → During G p w → During G p (visits G free p w es)
-    visits-during u [] w hp q sub F = F
-    visits-during u (e ∷ es) w hp q sub F =
-        let x = visit-extends G free p w e in
-        visits-during u es (visit G free p w e) (omega (arith, x .longer))
+        → During G p w → During G p (discoverAll G free p w es)
+    discover-all-during u [] w hp q sub F = F
+    discover-all-during u (e ∷ es) w hp q sub F =
+        let x = discover-extends G free p w e in
+        discover-all-during u es (discover G free p w e) (omega (arith, x .longer))
         (ap (λ (n : Node (G .Vertices)). n .vertex) (x .same p hp) ∙ q)
         (λ d m. sub d (List·Memᴰ·tail m))
-        (visit-during w e hp (rw q (sub e (List·Memᴰ·head refl))) F)
+        (discover-during w e hp (rw q (sub e (List·Memᴰ·head refl))) F)

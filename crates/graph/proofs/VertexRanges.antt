@@ -12,7 +12,7 @@ use Rattle.automaton.proofs.Transitions.{transition-on, transition-into}
 use Rattle.slots.specs.declared.Vertex.{Vertex}
 use Rattle.graph.specs.Discovery.{Path, stay, along, Node, at}
 use Rattle.graph.specs.LagGraph.{initialVertex, successor, successors, lagGraph}
-use Rattle.graph.proofs.Visits.{lt-or-le}
+use Rattle.graph.proofs.Discoveries.{lt-or-le}
 use Rattle.graph.proofs.Parents.{Linked}
 use Rattle.graph.proofs.Words.{word-path}
 use Rattle.graph.proofs.CounterSteps.{next-le, length-stepped, stepped-le}

@@ -22,7 +22,7 @@ use Rattle.slots.proofs.Vertices.{same-vertex-eq, same-vertex-refl}
 use Rattle.graph.specs.Discovery.{Node, Walk, going, ended, full, nodesOf, DiscoveryList, all, final, at}
 use Rattle.graph.specs.LagGraph.{lagGraph}
 use Rattle.graph.specs.Walks.{walkOf, wordOf, Fits, NeedsMore}
-use Rattle.graph.proofs.Visits.{Extends, length-snoc, lt-or-le}
+use Rattle.graph.proofs.Discoveries.{Extends, length-snoc, lt-or-le}
 use Rattle.graph.proofs.Parents.{Linked}
 use Rattle.graph.specs.Discovery.{withFinal}
 use Rattle.graph.proofs.Capacity.{walk-going-iff, walk-ended-iff, walk-full-more}

@@ -8,7 +8,7 @@ use Prim.Native.Nat.{ℕ, zero, suc, _+_, _≤_, _<_}
 use native.Mathlib.Omega.{arith}
 use lib.ListN.{length, length-append}
 use Rattle.graph.specs.Discovery.{Path, stay, along, Graph, Node, ended, DiscoveryList, at, back, wordTo, finalWord}
-use Rattle.graph.proofs.Visits.{length-snoc, at-left, at-last, lt-or-le}
+use Rattle.graph.proofs.Discoveries.{length-snoc, at-left, at-last, lt-or-le}
 use Rattle.graph.proofs.Parents.{Linked}
 use Rattle.graph.proofs.DiscoveryLaws.{Ended, ended-list}
 

@@ -4,9 +4,9 @@
 --   Path               a path along the successors
 --   Node               a listed vertex, with the letter and the place of the parent by which it was found
 --   Walk               a list so far: it goes on; it has ended with a final vertex; or a vertex found no slot
---   visit              one successor more, with a test that says where a slot is free
---   turn p             all successors of the vertex at place p
---   discovered k       the list after the turns of its first k places, with a slot for every vertex
+--   discover           one successor more, with a test that says where a slot is free
+--   expand p           all successors of the vertex at place p
+--   discovered k       the list once its first k places are expanded, with a slot for every vertex
 --   DiscoveryList w    w is the whole discovery list. It does not depend on slots
 --   walk S             the list with S slots
 --   wordTo ns i        the letters on the way to place i, read back by the parents, first letter first
@@ -71,17 +71,17 @@ module _ (G : Graph) where
   listed v [] = false
   listed v (n ∷ ns) = G .same v (n .vertex) || listed v ns
 
-  abbrev pub visit : (ℕ → Bool) → ℕ → Walk (G .Vertices) → ℕ × G .Vertices → Walk (G .Vertices)
-  visit free p (going ns) e =
+  abbrev pub discover : (ℕ → Bool) → ℕ → Walk (G .Vertices) → ℕ × G .Vertices → Walk (G .Vertices)
+  discover free p (going ns) e =
       cond (listed (e .1) ns) (going ns)
       (cond (G .final (e .1)) (ended ns (node e p))
       (cond (free (length ns)) (going (ns ++ node e p ∷ [])) (full ns)))
-  visit free p (ended ns n) e = ended ns n
-  visit free p (full ns) e = full ns
+  discover free p (ended ns n) e = ended ns n
+  discover free p (full ns) e = full ns
 
-  abbrev pub visits : (ℕ → Bool) → ℕ → Walk (G .Vertices) → List (ℕ × G .Vertices) → Walk (G .Vertices)
-  visits free p w [] = w
-  visits free p w (e ∷ es) = visits free p (visit free p w e) es
+  abbrev pub discoverAll : (ℕ → Bool) → ℕ → Walk (G .Vertices) → List (ℕ × G .Vertices) → Walk (G .Vertices)
+  discoverAll free p w [] = w
+  discoverAll free p w (e ∷ es) = discoverAll free p (discover free p w e) es
 
   -- the successors of the vertex at a place; none past the end
   abbrev pub successorsAt : List (Node (G .Vertices)) → ℕ → List (ℕ × G .Vertices)
@@ -89,29 +89,29 @@ module _ (G : Graph) where
   successorsAt (n ∷ ns) zero = G .successors (n .vertex)
   successorsAt (n ∷ ns) (suc i) = successorsAt ns i
 
-  abbrev pub turn : (ℕ → Bool) → ℕ → Walk (G .Vertices) → Walk (G .Vertices)
-  turn free p w = visits free p w (successorsAt (nodesOf w) p)
+  abbrev pub expand : (ℕ → Bool) → ℕ → Walk (G .Vertices) → Walk (G .Vertices)
+  expand free p w = discoverAll free p w (successorsAt (nodesOf w) p)
 
-  -- k turns from place p on; a turn past the end, or after the list has ended, changes nothing
-  abbrev pub turns : (ℕ → Bool) → ℕ → ℕ → Walk (G .Vertices) → Walk (G .Vertices)
-  turns free zero p w = w
-  turns free (suc k) p w = turns free k (suc p) (turn free p w)
+  -- the k places from p on; to expand past the end, or after the list has ended, changes nothing
+  abbrev pub expandAll : (ℕ → Bool) → ℕ → ℕ → Walk (G .Vertices) → Walk (G .Vertices)
+  expandAll free zero p w = w
+  expandAll free (suc k) p w = expandAll free k (suc p) (expand free p w)
 
   -- the initial vertex, which no letter and no parent found
   abbrev pub begin : (ℕ → Bool) → Walk (G .Vertices)
-  begin free = visit free noParent (going []) (noLetter, G .initial)
+  begin free = discover free noParent (going []) (noLetter, G .initial)
 
   abbrev pub discovered : ℕ → Walk (G .Vertices)
-  discovered k = turns always k 0 (begin always)
+  discovered k = expandAll always k 0 (begin always)
 
-  -- the turns of all its places are done, or it has ended
+  -- all its places are expanded, or it has ended
   pub data DiscoveryList : Walk (G .Vertices) → Type 0 where
     all : {ns : List (Node (G .Vertices))} (k : ℕ) → discovered k ≡ going ns → length ns ≤ k → DiscoveryList (going ns)
     final : {ns : List (Node (G .Vertices))} {n : Node (G .Vertices)} (k : ℕ) → discovered k ≡ ended ns n → DiscoveryList (ended ns n)
 
-  -- with S slots at most S vertices are listed that are not final, so S turns are enough
+  -- with S slots at most S vertices are listed that are not final, so to expand S places is enough
   abbrev pub walk : ℕ → Walk (G .Vertices)
-  walk S = turns (below S) S 0 (begin (below S))
+  walk S = expandAll (below S) S 0 (begin (below S))
 
   abbrev pub root : Node (G .Vertices)
   root = node (noLetter, G .initial) noParent

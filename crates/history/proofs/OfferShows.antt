@@ -16,13 +16,13 @@ use Rattle.graph.specs.Discovery.{Walk, going, ended, full}
 use Rattle.graph.specs.Walks.{walkOf, wordOf}
 use Rattle.graph.proofs.WalkTheorem.{walk-ended}
 use Rattle.answers.specs.Table.{NoneFinal}
-use Rattle.answers.specs.Demand2.{Shown}
+use Rattle.answers.specs.Demand2.{Difference}
 use Rattle.answers.proofs.WalkRows.{whole-of}
-use Rattle.answers.proofs.ShownWords.{written-shown}
+use Rattle.answers.proofs.DifferenceWords.{written-shown}
 use Rattle.history.specs.declared.Entry.{Entry}
 use Rattle.history.specs.declared.OfferAnswer.the-variants.{Forward, Back, NoRoom}
 use Rattle.history.specs.Offers.{Offer, offerOf}
-use Rattle.history.specs.Tables.{HoldsFile}
+use Rattle.history.specs.Tables.{FileHolds}
 use Rattle.history.proofs.OfferWalks.{answerBy, wordBy}
 use Rattle.history.proofs.OfferCases.{by-offer}
 use Rattle.history.proofs.FileConditions.{file-of}
@@ -53,7 +53,7 @@ forward-not-back false m n len j size e = let z : _≡_ {A = ℕ} 0 1 = cc in om
 
 module _ (H B : Automaton) (b S : ℕ) (word : List ℕ) where
   walks-forward : (m len : ℕ) → InRange B → (w back : Walk Vertex) → walkOf H B b S ≡ w
-      → answerBy H B b S (length word) w back ≡ Forward m len → Shown H B b S m len (wordBy H B b word w back)
+      → answerBy H B b S (length word) w back ≡ Forward m len → Difference H B b S m len (wordBy H B b word w back)
   walks-forward m len r (going ns) (going ms) d e = let z : _≡_ {A = ℕ} 0 1 = cc in absurd (omega arith)
   walks-forward m len r (going ns) (ended ms n) d e =
       let size = length (wordOf B H b ms n) in
@@ -67,7 +67,7 @@ module _ (H B : Automaton) (b S : ℕ) (word : List ℕ) where
 
   walks-back : (m n len : ℕ) → InRange H → (w back : Walk Vertex) → walkOf H B b S ≡ w → walkOf B H b S ≡ back
       → answerBy H B b S (length word) w back ≡ Back m n len
-      → NoneFinal H B b S m × Shown B H b S n len (wordBy H B b word w back)
+      → NoneFinal H B b S m × Difference B H b S n len (wordBy H B b word w back)
   walks-back m n len r (going ns) (going ms) d c e = let z : _≡_ {A = ℕ} 0 1 = cc in absurd (omega arith)
   walks-back m n len r (going ns) (ended ms x) d c e =
       let size = length (wordOf B H b ms x) in
@@ -83,20 +83,20 @@ module _ (E : Entry) (f : List ℕ) (b : ℕ) (work word : List ℕ) where
   S = slotCount (length work)
 
   abbrev Forwards : ℕ → ℕ → Offer → Type 0
-  Forwards m len o = o .answer ≡ Forward m len → HoldsFile f (λ B. Shown (E .held) B b S m len (o .word))
+  Forwards m len o = o .answer ≡ Forward m len → FileHolds f (λ B. Difference (E .held) B b S m len (o .word))
 
   pub forward-shows : (m len : ℕ) → offerOf E f b work word .answer ≡ Forward m len
-      → HoldsFile f (λ B. Shown (E .held) B b S m len (offerOf E f b work word .word))
+      → FileHolds f (λ B. Difference (E .held) B b S m len (offerOf E f b work word .word))
   forward-shows m len =
       by-offer E f b work word (Forwards m len) (λ n e. let z : _≡_ {A = ℕ} 0 1 = cc in absurd (omega arith))
       (λ B r i w back d c e. file-of r (walks-forward (E .held) B b S word m len (file-in-range f B r) w back d e))
 
   abbrev Backs : ℕ → ℕ → ℕ → Offer → Type 0
   Backs m n len o =
-      o .answer ≡ Back m n len → HoldsFile f (λ B. NoneFinal (E .held) B b S m × Shown B (E .held) b S n len (o .word))
+      o .answer ≡ Back m n len → FileHolds f (λ B. NoneFinal (E .held) B b S m × Difference B (E .held) b S n len (o .word))
 
   pub back-shows : (m n len : ℕ) → offerOf E f b work word .answer ≡ Back m n len
-      → HoldsFile f (λ B. NoneFinal (E .held) B b S m × Shown B (E .held) b S n len (offerOf E f b work word .word))
+      → FileHolds f (λ B. NoneFinal (E .held) B b S m × Difference B (E .held) b S n len (offerOf E f b work word .word))
   back-shows m n len =
       by-offer E f b work word (Backs m n len) (λ k e. let z : _≡_ {A = ℕ} 0 1 = cc in absurd (omega arith))
       (λ B r i w back d c e. file-of r (walks-back (E .held) B b S word m n len (i .in-range) w back d c e))

@@ -18,7 +18,7 @@ use Rattle.answers.specs.declared.Comparison.the-variants.{Differs, NoRoom as R
 use Rattle.answers.specs.Contain.{walkWord, compareWith, comparing}
 use Rattle.history.specs.declared.OfferAnswer.{OfferAnswer}
 use Rattle.history.specs.declared.OfferAnswer.the-variants.{Taken, Forward, Back, NoSlots, NoRoom}
-use Rattle.history.specs.Offers.{backAnswer, offerAnswer, lastLeft, walksOf, walksAnswer, walksWork, walksWord}
+use Rattle.history.specs.Offers.{backAnswer, offerAnswer, lastMade, walksOf, walksAnswer, walksWork, walksWord}
 
 -- the answer x where a word of so many letters has room, else refusal 11 of the walk
 abbrev pub fitting : ℕ → ℕ → ℕ → OfferAnswer → OfferAnswer
@@ -59,7 +59,7 @@ back-fits : (c : Bool) (count place len : ℕ)
 back-fits true count place len = refl
 back-fits false count place len = refl
 
-forward-left : (c : Bool) (place len : ℕ) (one two : List ℕ) → lastLeft (cond c (Differs place len) (Roomless len)) one two ≡ one
+forward-left : (c : Bool) (place len : ℕ) (one two : List ℕ) → lastMade (cond c (Differs place len) (Roomless len)) one two ≡ one
 forward-left true place len one two = refl
 forward-left false place len one two = refl
 

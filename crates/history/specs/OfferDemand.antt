@@ -3,7 +3,7 @@
 --   OfferListed S room x   x can occur with S slots and room for so many letters; a word is no longer than the place of its final vertex
 --   OfferLeaves x ..       entry, work and word after the answer x; H is the held automaton, B the offer. Both walks write from the
 --                          start of the work buffer, so the back walk's slots stand over the forward walk's
--- Shown by `offer-demand-1`. Assumes nothing.
+-- Difference by `offer-demand-1`. Assumes nothing.
 use mathlib.Core.Path.{_≡_}
 use mathlib.Core.List.{List, _++_}
 use mathlib.Core.Logic.{_⊎_, _↔_}
@@ -19,7 +19,7 @@ use Rattle.history.specs.declared.Entry.{Entry}
 use Rattle.history.specs.declared.OfferAnswer.{OfferAnswer}
 use Rattle.history.specs.declared.OfferAnswer.the-variants.{Taken, Forward, Back, Refused, NoSlots, NoRoom}
 use Rattle.history.specs.Offers.{offerOf, nextEdition}
-use Rattle.history.specs.Tables.{HoldsFile, offerRows}
+use Rattle.history.specs.Tables.{FileHolds, offerRows}
 
 -- before the walks
 pub data OfferRefusal : ℕ → Type 0 where
@@ -49,30 +49,30 @@ module _ (E : Entry) (f : List ℕ) (b : ℕ) (work word : List ℕ) where
   OfferLeaves (NoSlots walk n) E' work' word' =
       let H = E .held in
       let S = slotCount (length work) in
-      (E' ≡ E) × (word' ≡ word) × HoldsFile f (λ B.
+      (E' ≡ E) × (word' ≡ word) × FileHolds f (λ B.
       ((walk ≡ 1) × FrontSlots H B b S work work')
       ⊎ ((walk ≡ 2) × Whole H B b S (λ ns. FrontSlots B H b S (written work ns) work')))
   OfferLeaves (NoRoom walk len) E' work' word' =
       let H = E .held in
       let S = slotCount (length work) in
-      (E' ≡ E) × (word' ≡ word) × HoldsFile f (λ B.
+      (E' ≡ E) × (word' ≡ word) × FileHolds f (λ B.
       ((walk ≡ 1) × Final H B b S (λ ns n. (len ≡ length (wordOf H B b ns n)) × (work' ≡ written work ns)))
       ⊎ ((walk ≡ 2) × Whole H B b S (λ ns. Final B H b S (λ ms m.
       (len ≡ length (wordOf B H b ms m)) × (work' ≡ written (written work ns) ms)))))
   OfferLeaves (Forward m len) E' work' word' =
       let H = E .held in
-      (E' ≡ E) × HoldsFile f (λ B. Final H B b (slotCount (length work)) (λ ns n.
+      (E' ≡ E) × FileHolds f (λ B. Final H B b (slotCount (length work)) (λ ns n.
       (m ≡ length ns) × (len ≡ length (wordOf H B b ns n)) × (work' ≡ written work ns) × (word' ≡ wordOf H B b ns n ++ drop len word)))
   OfferLeaves (Back m n len) E' work' word' =
       let H = E .held in
       let S = slotCount (length work) in
-      (E' ≡ E) × HoldsFile f (λ B. Whole H B b S (λ ns. Final B H b S (λ ms k.
+      (E' ≡ E) × FileHolds f (λ B. Whole H B b S (λ ns. Final B H b S (λ ms k.
       (m ≡ length ns) × (n ≡ length ms) × (len ≡ length (wordOf B H b ms k))
       × (work' ≡ written (written work ns) ms) × (word' ≡ wordOf B H b ms k ++ drop len word))))
   OfferLeaves (Taken m n) E' work' word' =
       let H = E .held in
       let S = slotCount (length work) in
-      HoldsFile f (λ B. (E' ≡ nextEdition E B) × Whole H B b S (λ ns. Whole B H b S (λ ms.
+      FileHolds f (λ B. (E' ≡ nextEdition E B) × Whole H B b S (λ ns. Whole B H b S (λ ms.
       (m ≡ length ns) × (n ≡ length ms) × (work' ≡ written (written work ns) ms) × (word' ≡ word))))
 
   pub record OfferDemand1 : Type 0 where

@@ -7,7 +7,7 @@
 --   Offer            what offer gives: its answer, the entry, and the two buffers afterwards
 --   offerOf          the whole call
 --   partLength       the length of the part of the word buffer that is handed back: the word of forward or back, else an empty part
--- Shown by `offer-demand-1`, `forward-shows`, `back-shows` and `demand-3`. Assumes nothing.
+-- Difference by `offer-demand-1`, `forward-shows`, `back-shows` and `demand-3`. Assumes nothing.
 use mathlib.Core.Bool.{Bool, true, false, cond, _||_, not}
 use mathlib.Core.List.{List}
 use Prim.Native.Nat.{ℕ, _+_}
@@ -63,20 +63,20 @@ offerAnswer (Unslotted n) back = NoSlots 1 n
 offerAnswer (Roomless len) back = NoRoom 1 len
 
 -- what the forward walk leaves, or what the back walk leaves after containment
-abbrev pub lastLeft : Comparison → List ℕ → List ℕ → List ℕ
-lastLeft (Contained m) forward back = back
-lastLeft (Differs i len) forward back = forward
-lastLeft (Unslotted n) forward back = forward
-lastLeft (Roomless len) forward back = forward
+abbrev pub lastMade : Comparison → List ℕ → List ℕ → List ℕ
+lastMade (Contained m) forward back = back
+lastMade (Differs i len) forward back = forward
+lastMade (Unslotted n) forward back = forward
+lastMade (Roomless len) forward back = forward
 
 abbrev pub walksAnswer : Walks → OfferAnswer
 walksAnswer w = offerAnswer (w .forward .answer) (w .back .answer)
 
 abbrev pub walksWork : Walks → List ℕ
-walksWork w = lastLeft (w .forward .answer) (w .forward .work) (w .back .work)
+walksWork w = lastMade (w .forward .answer) (w .forward .work) (w .back .work)
 
 abbrev pub walksWord : Walks → List ℕ
-walksWord w = lastLeft (w .forward .answer) (w .forward .word) (w .back .word)
+walksWord w = lastMade (w .forward .answer) (w .forward .word) (w .back .word)
 
 abbrev pub nextEdition : Entry → Automaton → Entry
 nextEdition E B = record { filled = true; edition = E .edition + 1; first = E .first; held = B }

@@ -1,5 +1,5 @@
 -- Demand 1 of open (01, the table of refusals and "Entry, open, offer"): what it answers, the refusals that can occur, and the entry after
--- each answer. Shown by `open-demand-1`. Assumes nothing.
+-- each answer. Difference by `open-demand-1`. Assumes nothing.
 use mathlib.Core.Path.{_≡_}
 use mathlib.Core.List.{List}
 use mathlib.Core.Logic.{_↔_}
@@ -10,7 +10,7 @@ use Rattle.history.specs.declared.Entry.{Entry}
 use Rattle.history.specs.declared.OpenAnswer.{OpenAnswer}
 use Rattle.history.specs.declared.OpenAnswer.the-variants.{Opened, Refused}
 use Rattle.history.specs.Opens.{openOf, firstEdition}
-use Rattle.history.specs.Tables.{HoldsFile, openRows}
+use Rattle.history.specs.Tables.{FileHolds, openRows}
 
 pub data OpenRefusal : ℕ → Type 0 where
   malformed-entry : OpenRefusal 9
@@ -26,7 +26,7 @@ OpenListed (Refused n) = OpenRefusal n
 module _ (E : Entry) (f : List ℕ) where
   -- the entry after an answer
   abbrev pub OpenLeaves : OpenAnswer → Entry → Type 0
-  OpenLeaves Opened E' = HoldsFile f (λ A. E' ≡ firstEdition A)
+  OpenLeaves Opened E' = FileHolds f (λ A. E' ≡ firstEdition A)
   OpenLeaves (Refused n) E' = E' ≡ E
 
   pub record OpenDemand1 : Type 0 where

@@ -1,13 +1,13 @@
 -- What open, offer and verdict answer under which condition, in the order of the checks (01, the table of refusals and "Entry, open,
 -- offer"). Each row's condition stands on its own, so that `None (offerRefusals ..)` says that no refusal of the offer applies.
 --   Malformed E       condition 9, of an open entry
---   HoldsFile f P     the file can be read, and P holds of its automaton
+--   FileHolds f P     the file can be read, and P holds of its automaton
 --   openRows          9, 12, 1-5, 6; then opened
 --   offerRefusals     9, 13, 1-5, 8, 7, 6, 14, forward 10 and 11, back 10 and 11
 --   offerOutcomes     forward, back, taken
 --   verdictRows       9, 13, 15; then yes and no
 --   openPlace, offerPlace, verdictPlace   the place of an answer's row, counted from 0
--- Shown by `open-table`, `offer-table` and `verdict-table`. Assumes nothing.
+-- Difference by `open-table`, `offer-table` and `verdict-table`. Assumes nothing.
 use mathlib.Core.Path.{_≡_}
 use mathlib.Core.Bool.{true, false, cond}
 use mathlib.Core.Logic.{_⊎_, _≢_}
@@ -38,7 +38,7 @@ use Rattle.history.specs.Verdicts.{BadLasso}
 abbrev pub Malformed : Entry → Type 0
 Malformed E = (E .filled ≡ true) × (WellFormed E → ⊥)
 
-pub record HoldsFile (f : List ℕ) (P : Automaton → Type 0) : Type 0 where
+pub record FileHolds (f : List ℕ) (P : Automaton → Type 0) : Type 0 where
   pub automaton : Automaton
   pub read : readFile f ≡ holds automaton
   pub condition : P automaton
@@ -59,8 +59,8 @@ module _ (E : Entry) (f : List ℕ) where
       openRefuses 9 (Malformed E)
       ∷ openRefuses 12 (E .filled ≡ true)
       ∷ answersBy OpenRefused (Refusal f)
-      ∷ openRefuses 6 (HoldsFile f HasDead)
-      ∷ answers Opened (HoldsFile f (λ A. Unit {0}))
+      ∷ openRefuses 6 (FileHolds f HasDead)
+      ∷ answers Opened (FileHolds f (λ A. Unit {0}))
       ∷ []
 
 module _ (E : Entry) (f : List ℕ) (b : ℕ) (work word : List ℕ) where
@@ -72,7 +72,7 @@ module _ (E : Entry) (f : List ℕ) (b : ℕ) (work word : List ℕ) where
 
   -- the forward walk comes to no final vertex, and P holds
   abbrev After : (Automaton → Type 0) → Type 0
-  After P = HoldsFile f (λ B. Whole held B b slots (λ ns. P B))
+  After P = FileHolds f (λ B. Whole held B b slots (λ ns. P B))
 
   abbrev pub offerRefusals : List (Row OfferAnswer)
   offerRefusals =
@@ -80,20 +80,20 @@ module _ (E : Entry) (f : List ℕ) (b : ℕ) (work word : List ℕ) where
       ∷ refuses 13 (E .filled ≡ false)
       ∷ answersBy Refused (Refusal f)
       ∷ refuses 8 (maxBound < b)
-      ∷ refuses 7 (HoldsFile f (λ B. held .letters ≢ B .letters))
-      ∷ refuses 6 (HoldsFile f HasDead)
-      ∷ refuses 14 (HoldsFile f (λ B. (Smaller B held → ⊥) ⊎ (E .edition ≡ maxEdition)))
-      ∷ answers (NoSlots 1 slots) (HoldsFile f (λ B. NeedsMore held B b slots))
-      ∷ answersBy (NoRoom 1) (λ len. HoldsFile f (λ B. TooLong held B b slots (length word) len))
+      ∷ refuses 7 (FileHolds f (λ B. held .letters ≢ B .letters))
+      ∷ refuses 6 (FileHolds f HasDead)
+      ∷ refuses 14 (FileHolds f (λ B. (Smaller B held → ⊥) ⊎ (E .edition ≡ maxEdition)))
+      ∷ answers (NoSlots 1 slots) (FileHolds f (λ B. NeedsMore held B b slots))
+      ∷ answersBy (NoRoom 1) (λ len. FileHolds f (λ B. TooLong held B b slots (length word) len))
       ∷ answers (NoSlots 2 slots) (After (λ B. NeedsMore B held b slots))
       ∷ answersBy (NoRoom 2) (λ len. After (λ B. TooLong B held b slots (length word) len))
       ∷ []
 
   abbrev pub offerOutcomes : List (Row OfferAnswer)
   offerOutcomes =
-      answersBy₂ Forward (λ m len. HoldsFile f (λ B. FinalAt held B b slots m len))
-      ∷ answersBy₃ Back (λ m n len. HoldsFile f (λ B. NoneFinal held B b slots m × FinalAt B held b slots n len))
-      ∷ answersBy₂ Taken (λ m n. HoldsFile f (λ B. NoneFinal held B b slots m × NoneFinal B held b slots n))
+      answersBy₂ Forward (λ m len. FileHolds f (λ B. FinalAt held B b slots m len))
+      ∷ answersBy₃ Back (λ m n len. FileHolds f (λ B. NoneFinal held B b slots m × FinalAt B held b slots n len))
+      ∷ answersBy₂ Taken (λ m n. FileHolds f (λ B. NoneFinal held B b slots m × NoneFinal B held b slots n))
       ∷ []
 
   abbrev pub offerRows : List (Row OfferAnswer)

@@ -1,5 +1,5 @@
 -- The chapter's theorem: the computed verdict is the acceptance of the lasso word. Of the copies of the loop on the accepting cycle,
--- one meets the accepting state: its run is the turn that the verdict looks for. Assumes nothing.
+-- one meets the accepting state: its run is the cycle that the verdict looks for. Assumes nothing.
 use mathlib.Core.Path.{subst}
 use mathlib.Core.Bool.{Bool, _&&_}
 use mathlib.Core.Logic.{_⊎_, inl, inr, _↔_}
@@ -23,14 +23,14 @@ use Rattle.lassos.proofs.LoopRuns.{Copies, copies-none, copies-one, cop
 use Rattle.lassos.proofs.LoopRuns.{loopVisits-sound, loopVisits-complete, reaches-sound, reaches-complete}
 
 -- copies of v lead from p to some r, a run on v from r to some s meets an accepting state, and copies of v lead from s to q
-pub record Turn (A : Automaton) (v : List ℕ) (p q : ℕ) : Type 0 where
+pub record Cycle (A : Automaton) (v : List ℕ) (p q : ℕ) : Type 0 where
   pub from : ℕ
   pub to : ℕ
   pub before : Copies A v p from
   pub visit : Visit A from v to
   pub after : Copies A v to q
 
--- u leads to some p, and a turn goes from p back to where its run on v began
+-- u leads to some p, and a cycle goes from p back to where its run on v began
 pub record Found (A : Automaton) (u v : List ℕ) : Type 0 where
   pub state : ℕ
   pub stem : Via A (A .initial) u state
@@ -45,15 +45,15 @@ unfolding Meets
 some-met here m = absurd (List·Memᴰ·not-nil (m .1))
 some-met (step x k) m = omega arith
 
--- Acceptance is that a turn is found.
+-- Acceptance is that a cycle is found.
 
-turn-of : (A : Automaton) (v : List ℕ) (j p q : ℕ) → Visit A p (repeated j v) q → Turn A v p q
+cycle-of : (A : Automaton) (v : List ℕ) (j p q : ℕ) → Visit A p (repeated j v) q → Cycle A v p q
 unfolding repeated
-turn-of A v zero p q t = absurd (omega (arith, some-met (t .1) (t .2)))
-turn-of A v (suc j) p q t = let s = visit-split v (repeated j v) t in go (s .0) (λ m k. turn-of A v j m q k) (s .1)
+cycle-of A v zero p q t = absurd (omega (arith, some-met (t .1) (t .2)))
+cycle-of A v (suc j) p q t = let s = visit-split v (repeated j v) t in go (s .0) (λ m k. cycle-of A v j m q k) (s .1)
   where
-    go : (m : ℕ) → ((m′ : ℕ) → Visit A m′ (repeated j v) q → Turn A v m′ q)
-        → (Visit A p v m × Via A m (repeated j v) q) ⊎ (Via A p v m × Visit A m (repeated j v) q) → Turn A v p q
+    go : (m : ℕ) → ((m′ : ℕ) → Visit A m′ (repeated j v) q → Cycle A v m′ q)
+        → (Visit A p v m × Via A m (repeated j v) q) ⊎ (Via A p v m × Visit A m (repeated j v) q) → Cycle A v p q
     go m ih (inl s) = record { from = p; to = m; before = copies-none A v p; visit = s .0; after = (j, s .1) }
     go m ih (inr s) =
         let k = ih m (s .1) in
@@ -68,7 +68,7 @@ turn-of A v (suc j) p q t = let s = visit-split v (repeated j v) t in go (s .0) 
 accepted-found : {A : Automaton} {u v : List ℕ} → Accepted A u v → Found A u v
 accepted-found {A} {u} {v} o =
     let s = via-split u (repeated (o .i) v) (o .stem, o .stem-run) in
-    let t = turn-of A v (o .j) (o .state) (o .state) (accepted-visit o) in
+    let t = cycle-of A v (o .j) (o .state) (o .state) (accepted-visit o) in
     record {
       state = s .0;
       stem = s .1;
@@ -86,7 +86,7 @@ found-accepted {A} {u} {v} f =
     (via-append A (A .initial) u (f .state) (repeated (f .before .0) v) (f .from) (f .stem) (f .before .1))
     (visit-append A (f .from) v (f .to) (repeated (f .back .0) v) (f .from) (f .visit) (f .back .1))
 
--- The verdict finds a turn where there is one.
+-- The verdict finds a cycle where there is one.
 
 module _ (A : Automaton) (u v : List ℕ) where
   -- the states that u leads to, and what copies of v join
@@ -100,14 +100,14 @@ module _ (A : Automaton) (u v : List ℕ) where
   abbrev goesBack : ℕ → ℕ → Bool
   goesBack r s = related (loopVisits A v) r s && reaches joined s r
 
-  abbrev turnsAt : ℕ → ℕ → Bool
-  turnsAt p r = reaches joined p r && some (goesBack r) (A .states) 0
+  abbrev returnsAt : ℕ → ℕ → Bool
+  returnsAt p r = reaches joined p r && some (goesBack r) (A .states) 0
 
   verdict-found : T (accepted A u v) → Found A u v
   unfolding accepted
   verdict-found t =
       let p = some-below _ (A .states) t in
-      let t₁ = and-both (inSet ends (p .0)) (some (turnsAt (p .0)) (A .states) 0) (p .2) in
+      let t₁ = and-both (inSet ends (p .0)) (some (returnsAt (p .0)) (A .states) 0) (p .2) in
       let r = some-below _ (A .states) (t₁ .1) in
       let t₂ = and-both (reaches joined (p .0) (r .0)) (some (goesBack (r .0)) (A .states) 0) (r .2) in
       let s = some-below _ (A .states) (t₂ .1) in
@@ -133,11 +133,11 @@ module _ (A : Automaton) (u v : List ℕ) where
       let t₂ : T (goesBack (f .from) (f .to)) =
       both-and (related (loopVisits A v) (f .from) (f .to)) (reaches joined (f .to) (f .from))
       (loopVisits-complete A v (f .from) (f .to) hr hs (f .visit)) (reaches-complete A v (f .to) (f .from) hs hr (f .back)) in
-      let t₃ : T (turnsAt (f .state) (f .from)) =
+      let t₃ : T (returnsAt (f .state) (f .from)) =
       both-and (reaches joined (f .state) (f .from)) (some (goesBack (f .from)) (A .states) 0)
       (reaches-complete A v (f .state) (f .from) hp hr (f .before)) (some-at _ (A .states) (f .to) hs t₂) in
       some-at _ (A .states) (f .state) hp
-      (both-and (inSet ends (f .state)) (some (turnsAt (f .state)) (A .states) 0) t₁ (some-at _ (A .states) (f .from) hr t₃))
+      (both-and (inSet ends (f .state)) (some (returnsAt (f .state)) (A .states) 0) t₁ (some-at _ (A .states) (f .from) hr t₃))
 
 -- for every stem and loop, of any length; with an empty loop the verdict is no, and there is no lasso word
 pub verdict-decides-acceptance : (A : Automaton) → A .initial < A .states → (u v : List ℕ) → T (accepted A u v) ↔ Accepted A u v

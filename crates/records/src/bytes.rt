@@ -3,8 +3,8 @@ ghost use mathlib.Core.Path.{_≡_};
 ghost use Prim.Native.Nat.{_-_, _+_, _≤_};
 ghost use lib.ListN.{length};
 ghost use Rattle.format.specs.Records.{acceptingRecord, transitionRecord, endRecord, recordIn};
-use format::Record;
 use automaton::wide;
+use format::Record;
 
 // The number of bytes from a position on.
 fn left_from(file: &[u8], at: usize) -> usize

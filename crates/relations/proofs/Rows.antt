@@ -17,7 +17,7 @@ use lib.Seq.{getD-set-same, getD-set-other, getD-append-add, getD-take, getD-dro
 use borrow.Author.Tests.{ltb-true, ltb-false, lt-ltb, le-ltb, eq-eqb, ne-eqb, eqb-true, eqb-false}
 use Rattle.automaton.specs.Ranges.{some, table}
 use Rattle.automaton.specs.Sets.{bit, withBit, member}
-use Rattle.relations.specs.Closure.{related, relation, through, rounds, closure, holdsRow}
+use Rattle.relations.specs.Closure.{related, relation, through, rounds, closure, rowHas}
 use Rattle.relations.specs.Rows.{withRow, changedRows, diagonalRows, roundRows, roundsRows, closedRows}
 use Rattle.automaton.proofs.Tests.{is-true, T-true, not-T-false, same-test, clash}
 use Rattle.automaton.proofs.Ranges.{some-at, some-below, table-at, length-table}
@@ -340,20 +340,20 @@ first-row n f rows p l h =
 
 -- The diagonal.
 
-or-turned : (a b : Bool) → (a || b) ≡ (b || a)
-or-turned true true = refl
-or-turned true false = refl
-or-turned false true = refl
-or-turned false false = refl
+or-swapped : (a b : Bool) → (a || b) ≡ (b || a)
+or-swapped true true = refl
+or-swapped true false = refl
+or-swapped false true = refl
+or-swapped false false = refl
 
 -- each of the first n states is then related to itself besides
 pub diagonal-rows : (n : ℕ) (rows rows′ : List ℕ) → rows′ ≡ diagonalRows n rows → n ≤ length rows
-    → (p q : ℕ) → p < n → holdsRow rows′ p q ≡ (eqb p q || holdsRow rows p q)
+    → (p q : ℕ) → p < n → rowHas rows′ p q ≡ (eqb p q || rowHas rows p q)
 diagonal-rows n rows rows′ e l p q h =
-    ap (λ (x : List ℕ). holdsRow x p q) e
+    ap (λ (x : List ℕ). rowHas x p q) e
     ∙ ap (λ (w : ℕ). bit w q) (first-row n (λ i. withBit (getD rows i 0) i) rows p l h)
     ∙ bit-with (getD rows p 0) p q
-    ∙ or-turned (holdsRow rows p q) (eqb p q)
+    ∙ or-swapped (rowHas rows p q) (eqb p q)
 
 -- The round by way of k.
 
@@ -362,7 +362,7 @@ bit-with-row S T p row q = go (bit T p)
   where
     go : (c : Bool) → bit (cond c (bitOr S row) S) q ≡ (bit S q || (c && bit row q))
     go true = bit-or S row q
-    go false = or-turned false (bit S q)
+    go false = or-swapped false (bit S q)
 
 -- what row i is after the round
 abbrev pub roundRow : List ℕ → ℕ → ℕ → ℕ
@@ -404,12 +404,12 @@ module _ (n : ℕ) (rows : List ℕ) (fits : n ≤ length rows) where
 
   -- the rows after the rounds have the members of the table after the rounds
   rounds-hold : (k p q : ℕ) → k ≤ n → p < n → q < n
-      → holdsRow (roundsRows n k rows) p q ≡ related (rounds n k (relation n (holdsRow rows))) p q
+      → rowHas (roundsRows n k rows) p q ≡ related (rounds n k (relation n (rowHas rows))) p q
   unfolding rounds through roundsRows
-  rounds-hold zero p q hk hp hq = sym (related-relation n (holdsRow rows) p q hp hq)
+  rounds-hold zero p q hk hp hq = sym (related-relation n (rowHas rows) p q hp hq)
   rounds-hold (suc k) p q hk hp hq =
       let R = roundsRows n k rows in
-      let C = rounds n k (relation n (holdsRow rows)) in
+      let C = rounds n k (relation n (rowHas rows)) in
       let few : k ≤ n = omega arith in
       let own = rounds-hold k p q few hp hq in
       let into = rounds-hold k p k few hp (omega arith) in
@@ -424,7 +424,7 @@ module _ (n : ℕ) (rows : List ℕ) (fits : n ≤ length rows) where
 
 -- the first n rows then have the transitive closure of their relation
 pub closed-rows : (n : ℕ) (rows rows′ : List ℕ) → rows′ ≡ closedRows n rows → n ≤ length rows
-    → (p q : ℕ) → p < n → q < n → holdsRow rows′ p q ≡ related (closure n (relation n (holdsRow rows))) p q
+    → (p q : ℕ) → p < n → q < n → rowHas rows′ p q ≡ related (closure n (relation n (rowHas rows))) p q
 unfolding closure
 closed-rows n rows rows′ e l p q hp hq =
-    ap (λ (x : List ℕ). holdsRow x p q) e ∙ rounds-hold n rows l n p q (omega arith) hp hq
+    ap (λ (x : List ℕ). rowHas x p q) e ∙ rounds-hold n rows l n p q (omega arith) hp hq

@@ -5,7 +5,7 @@
 --   through n k R    one round: the paths of R, and those that go by way of k
 --   closure n R      a path of one or more steps of R goes from p to q
 --   reaches C p q    the same with zero steps allowed, C a closure
---   holdsRow rows p q   row p, a set as a word, has state q: how the code holds a relation
+--   rowHas rows p q   row p, a set as a word, has state q: how the code holds a relation
 -- Shown by `closure-sound` and `closure-complete`. Assumes nothing.
 use mathlib.Core.Bool.{Bool, false, _&&_, _||_}
 use mathlib.Core.List.{List, []}
@@ -35,5 +35,5 @@ closure n R = rounds n n R
 abbrev pub reaches : List (List Bool) → ℕ → ℕ → Bool
 reaches C p q = eqb p q || related C p q
 
-abbrev pub holdsRow : List ℕ → ℕ → ℕ → Bool
-holdsRow rows p q = bit (getD rows p 0) q
+abbrev pub rowHas : List ℕ → ℕ → ℕ → Bool
+rowHas rows p q = bit (getD rows p 0) q

@@ -9,12 +9,12 @@ ghost use lib.ListN.{length};
 ghost use Rattle.automaton.specs.Ranges.{some};
 ghost use Rattle.automaton.specs.Sets.{bit, withBit, member};
 ghost use Rattle.automaton.specs.Members.{transitionIn};
-ghost use Rattle.relations.specs.Closure.{holdsRow};
+ghost use Rattle.relations.specs.Closure.{rowHas};
 ghost use Rattle.relations.specs.Rows.{withRow, diagonalRows, roundRows, closedRows};
 use automaton::MAX_LETTERS;
 
 // Whether state q is in the set.
-pub fn holds(set: u32, q: usize) -> bool
+pub fn has(set: u32, q: usize) -> bool
     requires { ⌜ q < 32 ⌝ }
     ensures { λ r. ⌜ r ≡ bit set q ⌝ }
 {
@@ -84,13 +84,13 @@ fn with_row(set: u32, from: u32, p: usize, row: u32) -> u32
     requires { ⌜ p < 32 ⌝ }
     ensures { λ r. ⌜ r ≡ withRow set from p row ⌝ }
 {
-    if holds(from, p) { set | row } else { set }
+    if has(from, p) { set | row } else { set }
 }
 
 // The states to which the first n rows relate a state of the set.
 pub fn spread(rows: &[u32], set: u32, n: usize) -> u32
     requires { ⌜ (n ≤ 32) × (n ≤ length (now rows)) ⌝ }
-    ensures { λ r. ⌜ ((q : ℕ) → bit r q ≡ some (λ p. bit set p && holdsRow (now (rows .entry)) p q) n 0) ⌝ }
+    ensures { λ r. ⌜ ((q : ℕ) → bit r q ≡ some (λ p. bit set p && rowHas (now (rows .entry)) p q) n 0) ⌝ }
 {
     let mut found: u32 = 0;
     let mut p: usize = 0;

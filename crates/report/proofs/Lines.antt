@@ -9,8 +9,8 @@ use lib.Dec.{leb}
 use lib.ListN.{length, drop}
 use Rattle.history.specs.declared.Entry.{Entry}
 use Rattle.history.specs.declared.OfferAnswer.{OfferAnswer}
-use Rattle.report.specs.declared.answer_lines.Shown.{Shown}
-use Rattle.report.specs.Shown.{Shows}
+use Rattle.report.specs.declared.answer_lines.Summary.{Summary}
+use Rattle.report.specs.Summary.{SummaryOf}
 use Rattle.report.specs.Buffers.{Written}
 use Rattle.report.specs.Line.{decimal, percentSaved, space, statesText, ofText, savedText, walksText, fields}
 use Rattle.report.specs.Line.{offerLine, lineAfter, lineLength, Lined}
@@ -20,21 +20,21 @@ use Rattle.report.proofs.Buffers.{written-append, written-two, written-
 abbrev fieldsText : ℕ → ℕ → ℕ → ℕ → List ℕ
 fieldsText n s f p = space ++ decimal n ++ statesText ++ decimal s ++ ofText ++ decimal f ++ savedText ++ decimal p ++ walksText
 
-fields-shown : (E : Entry) (s : Shown) → Shows E s
+fields-shown : (E : Entry) (s : Summary) → SummaryOf E s
     → fieldsText (s .edition) (s .states) (s .first) (percentSaved (s .first) (s .states)) ≡ fields E
 unfolding fields
 fields-shown E s h =
     ap (λ (n : ℕ). fieldsText n (s .states) (s .first) (percentSaved (s .first) (s .states))) (sym (h .edition))
     ∙ ap₂ (λ (k f : ℕ). fieldsText (E .edition) k f (percentSaved f k)) (sym (h .states)) (sym (h .first))
 
-pub fields-written : {d e₁ e₂ e₃ e₄ f : List ℕ} {at n₁ n₂ n₃ n₄ r : ℕ} (s : Shown) (percent : ℕ)
+pub fields-written : {d e₁ e₂ e₃ e₄ f : List ℕ} {at n₁ n₂ n₃ n₄ r : ℕ} (s : Summary) (percent : ℕ)
     → percent ≡ percentSaved (s .first) (s .states)
     → Written d at (space ++ decimal (s .edition)) e₁ n₁
     → Written e₁ n₁ (statesText ++ decimal (s .states)) e₂ n₂
     → Written e₂ n₂ (ofText ++ decimal (s .first)) e₃ n₃
     → Written e₃ n₃ (savedText ++ decimal percent) e₄ n₄
     → Written e₄ n₄ walksText f r
-    → (E : Entry) → Shows E s → Written d at (fields E) f r
+    → (E : Entry) → SummaryOf E s → Written d at (fields E) f r
 fields-written s percent q a b c g w E h =
     let ab = written-two statesText (decimal (s .states)) a b in
     let abc = written-two ofText (decimal (s .first)) ab c in

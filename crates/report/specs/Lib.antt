@@ -1,5 +1,5 @@
 -- The listing (01, "Listing").
 pub mod Buffers
 pub mod Line
-pub mod Shown
+pub mod Summary
 pub mod Listing

@@ -5,7 +5,7 @@ ghost use lib.ListN.{length};
 ghost use Rattle.report.specs.Buffers.{Written};
 ghost use Rattle.report.specs.Line.{decimal, space, newline, wordText, fields, offerLine, refusedLine, lineRoom};
 ghost use Rattle.report.specs.Line.{letters as lettersText};
-ghost use Rattle.report.specs.Shown.{Shows};
+ghost use Rattle.report.specs.Summary.{SummaryOf};
 use crate::parts::put_byte;
 use crate::parts::put_decimal;
 use crate::parts::put_field;
@@ -16,37 +16,37 @@ use history::Entry;
 use history::OfferAnswer;
 
 // What the line shows of an entry: its edition number, the held states and the states of its first edition.
-pub struct Shown {
+pub struct Summary {
     pub edition: usize,
     pub states: usize,
     pub first: usize,
 }
 
 // Writes the fields of an entry, from the space before the edition number to the space before the counts.
-fn put_fields(line: &mut [u8], at: usize, shown: Shown) -> usize
+fn put_fields(line: &mut [u8], at: usize, summary: Summary) -> usize
     requires { ⌜ at + 107 ≤ length (now line) ⌝ }
-    ensures { λ r. ⌜ ((E : Entry) → Shows E shown → Written (now (line .entry)) at (fields E) (now (line .exit)) r) ⌝ }
+    ensures { λ r. ⌜ ((E : Entry) → SummaryOf E summary → Written (now (line .entry)) at (fields E) (now (line .exit)) r) ⌝ }
     ensures { λ r. ⌜ r ≤ at + 107 ⌝ }
 {
-    let edition = put_field(line, at, b" ", shown.edition);
-    let states = put_field(line, edition, b" states ", shown.states);
-    let first = put_field(line, states, b" of ", shown.first);
-    let percent = percent_saved(shown.first, shown.states);
+    let edition = put_field(line, at, b" ", summary.edition);
+    let states = put_field(line, edition, b" states ", summary.states);
+    let first = put_field(line, states, b" of ", summary.first);
+    let percent = percent_saved(summary.first, summary.states);
     let saved = put_field(line, first, b" saved ", percent);
     put_text(line, saved, b" walks ")
 }
 
 // Writes a line's front: the outcome, the fields, the forward count and a space.
-fn put_front(line: &mut [u8], outcome: &[u8], shown: Shown, forward: usize) -> usize
+fn put_front(line: &mut [u8], outcome: &[u8], summary: Summary, forward: usize) -> usize
     requires { ⌜ length (now outcome) + 128 ≤ length (now line) ⌝ }
     ensures { λ r. ⌜
-        ((E : Entry) → Shows E shown
+        ((E : Entry) → SummaryOf E summary
         → Written (now (line .entry)) 0 (now (outcome .entry) ++ fields E ++ decimal forward ++ space) (now (line .exit)) r)
         ⌝ }
     ensures { λ r. ⌜ r ≤ length (now (outcome .entry)) + 128 ⌝ }
 {
     let start = put_text(line, 0, outcome);
-    let count = put_fields(line, start, shown);
+    let count = put_fields(line, start, summary);
     let behind = put_decimal(line, count, forward);
     put_byte(line, behind, b' ')
 }
@@ -62,40 +62,40 @@ fn put_word(line: &mut [u8], at: usize, letters: &[u8]) -> usize
 }
 
 // Writes the line of an offer that is taken.
-fn put_taken(line: &mut [u8], shown: Shown, forward: usize, back: usize) -> usize
+fn put_taken(line: &mut [u8], summary: Summary, forward: usize, back: usize) -> usize
     requires { ⌜ 256 ≤ length (now line) ⌝ }
     ensures { λ r. ⌜
-        ((E : Entry) (w : List ℕ) → Shows E shown
+        ((E : Entry) (w : List ℕ) → SummaryOf E summary
         → Written (now (line .entry)) 0 (offerLine E (OfferAnswer.Taken forward back) w) (now (line .exit)) r)
         ⌝ }
 {
-    let count = put_front(line, b"taken", shown, forward);
+    let count = put_front(line, b"taken", summary, forward);
     let behind = put_decimal(line, count, back);
     put_byte(line, behind, b'\n')
 }
 
 // Writes the line of an offer whose forward walk differs.
-fn put_forward(line: &mut [u8], shown: Shown, forward: usize, letters: &[u8]) -> usize
+fn put_forward(line: &mut [u8], summary: Summary, forward: usize, letters: &[u8]) -> usize
     requires { ⌜ lineRoom (now letters) ≤ length (now line) ⌝ }
     ensures { λ r. ⌜
-        ((E : Entry) (n : ℕ) → Shows E shown
+        ((E : Entry) (n : ℕ) → SummaryOf E summary
         → Written (now (line .entry)) 0 (offerLine E (OfferAnswer.Forward forward n) (now (letters .entry))) (now (line .exit)) r)
         ⌝ }
 {
-    let count = put_front(line, b"forward", shown, forward);
+    let count = put_front(line, b"forward", summary, forward);
     let behind = put_byte(line, count, b'-');
     put_word(line, behind, letters)
 }
 
 // Writes the line of an offer whose back walk differs.
-fn put_back(line: &mut [u8], shown: Shown, forward: usize, back: usize, letters: &[u8]) -> usize
+fn put_back(line: &mut [u8], summary: Summary, forward: usize, back: usize, letters: &[u8]) -> usize
     requires { ⌜ lineRoom (now letters) ≤ length (now line) ⌝ }
     ensures { λ r. ⌜
-        ((E : Entry) (n : ℕ) → Shows E shown
+        ((E : Entry) (n : ℕ) → SummaryOf E summary
         → Written (now (line .entry)) 0 (offerLine E (OfferAnswer.Back forward back n) (now (letters .entry))) (now (line .exit)) r)
         ⌝ }
 {
-    let count = put_front(line, b"back", shown, forward);
+    let count = put_front(line, b"back", summary, forward);
     let behind = put_decimal(line, count, back);
     put_word(line, behind, letters)
 }
@@ -110,17 +110,17 @@ pub fn put_refused(line: &mut [u8], n: usize) -> usize
 }
 
 // Writes the line of an offer's answer.
-pub fn put_answer(line: &mut [u8], shown: Shown, answer: OfferAnswer, letters: &[u8]) -> usize
+pub fn put_answer(line: &mut [u8], summary: Summary, answer: OfferAnswer, letters: &[u8]) -> usize
     requires { ⌜ lineRoom (now letters) ≤ length (now line) ⌝ }
     ensures { λ r. ⌜
-        ((E : Entry) → Shows E shown
+        ((E : Entry) → SummaryOf E summary
         → Written (now (line .entry)) 0 (offerLine E answer (now (letters .entry))) (now (line .exit)) r)
         ⌝ }
 {
     match answer {
-        OfferAnswer::Taken(forward, back) => put_taken(line, shown, forward, back),
-        OfferAnswer::Forward(forward, _) => put_forward(line, shown, forward, letters),
-        OfferAnswer::Back(forward, back, _) => put_back(line, shown, forward, back, letters),
+        OfferAnswer::Taken(forward, back) => put_taken(line, summary, forward, back),
+        OfferAnswer::Forward(forward, _) => put_forward(line, summary, forward, letters),
+        OfferAnswer::Back(forward, back, _) => put_back(line, summary, forward, back, letters),
         OfferAnswer::Refused(n) => put_refused(line, n),
         OfferAnswer::NoSlots(_, _) => put_refused(line, 10),
         OfferAnswer::NoRoom(_, _) => put_refused(line, 11),

@@ -10,7 +10,7 @@ mod listings;
 mod parts;
 mod saved;
 
-use answer_lines::Shown;
+use answer_lines::Summary;
 use answer_lines::put_answer;
 use answer_lines::put_refused;
 use history::Entry;
@@ -44,12 +44,12 @@ pub fn offer_line(entry: Entry, answer: OfferAnswer, letters: &[u8], line: &mut 
 {
     if has_room(line.len(), letters.len()) {
         let held = entry.held;
-        let shown = Shown {
+        let summary = Summary {
             edition: entry.edition,
             states: held.states,
             first: entry.first,
         };
-        return put_answer(line, shown, answer, letters);
+        return put_answer(line, summary, answer, letters);
     }
     0
 }

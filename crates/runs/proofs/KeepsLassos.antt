@@ -56,7 +56,7 @@ module _ (B : Automaton) (u v : List ℕ) (i k j p : ℕ) (some : 1 ≤ length v
           let e : t .0 + suc (t .1 - suc (t .0)) ≡ t .1 = omega (arith, t .2) in
           close (t .0) (t .1 - suc (t .0)) (omega (arith, t .3)) (t .4 ∙ ap (c .0) (sym e))
 
--- A run of A that goes to q and then round n groups of b + 1 turns, and the run of B that follows it: a chain.
+-- A run of A that goes to q and then round n groups of b + 1 copies of the loop, and the run of B that follows it: a chain.
 module _ (A B : Automaton) (b n : ℕ) (followed : AllFollowed A B b) {w y ss ls : List ℕ} {q : ℕ}
     (stem : Run A (A .initial) w q ss) (loop : Run A q y q ls) (meets : Meets A ls) where
   parts-chain : {r : ℕ} {us : List ℕ} → LagIn A B b (A .initial ∷ ss ++ repeated n (repeated (suc b) ls)) (B .initial ∷ us)

@@ -1,4 +1,4 @@
--- The chained index of the slots: a walk along the chain of a hash passes no slot that holds the vertex, and a slot more keeps the
+-- The chained index of the slots: a walk along the chain of a hash passes no slot that slot_has the vertex, and a slot more keeps the
 -- index. The idea: what is looked for lies below the place where the walk stands. Assumes nothing.
 use mathlib.Core.Path.{_≡_, refl, sym, _∙_, ap}
 use mathlib.Core.Bool.{Bool, true, false, cond}
@@ -16,9 +16,9 @@ use Rattle.automaton.proofs.Tests.{is-true, not-T-false}
 use Rattle.slots.specs.declared.Vertex.{Vertex}
 use Rattle.slots.specs.declared.Found.the-variants.{At, Nothing}
 use Rattle.slots.specs.Slots.{slotSize, maxSlots, sameVertex}
-use Rattle.slots.specs.Bytes.{stored, vertexAt, lastBelow, hashes, hashOf, topBelow, Indexed}
+use Rattle.slots.specs.Bytes.{withSlot, vertexAt, lastBelow, hashes, hashOf, topBelow, Indexed}
 use Rattle.slots.proofs.Vertices.{same-vertex-eq}
-use Rattle.slots.proofs.SlotLayout.{stored-vertex, stored-below}
+use Rattle.slots.proofs.SlotLayout.{with-slot-vertex, with-slot-below}
 
 module _ (work : List ℕ) where
   pub top-le : (h n : ℕ) → topBelow work h n ≤ n
@@ -186,10 +186,10 @@ module _ (work work′ heads nexts : List ℕ) (n h : ℕ) (I : Indexed work hea
       }
 
 -- the next free slot written and linked
-pub index-stored : (work heads nexts : List ℕ) (n h : ℕ) (v : Vertex) (a p : ℕ) → Indexed work heads nexts n
+pub index-with-slot : (work heads nexts : List ℕ) (n h : ℕ) (v : Vertex) (a p : ℕ) → Indexed work heads nexts n
     → n * slotSize + slotSize ≤ length work
     → length (v .counters) ≡ 32 → h ≡ hashOf v → h < hashes → n < maxSlots
-    → Indexed (stored work n v a p) (set heads h (n + 1)) (set nexts n (getD heads h 0)) (n + 1)
-index-stored work heads nexts n h v a p I fits long key small room =
-    index-more work (stored work n v a p) heads nexts n h I (λ s l. stored-below work n v a p fits s long l)
-    (ap hashOf (stored-vertex work n v a p fits long) ∙ sym key) small room
+    → Indexed (withSlot work n v a p) (set heads h (n + 1)) (set nexts n (getD heads h 0)) (n + 1)
+index-with-slot work heads nexts n h v a p I fits long key small room =
+    index-more work (withSlot work n v a p) heads nexts n h I (λ s l. with-slot-below work n v a p fits s long l)
+    (ap hashOf (with-slot-vertex work n v a p fits long) ∙ sym key) small room

@@ -12,7 +12,7 @@ use lib.Seq.{length-take-le, ext-getD, getD-take, getD-drop, getD-append-add, ta
 use lib.Seq.{take-suc-set, paste, length-paste, take-paste, drop-paste, sets, sets-eq}
 use Rattle.slots.specs.declared.Vertex.{Vertex}
 use Rattle.slots.specs.Slots.{slotSize, slotCount, slotBytes}
-use Rattle.slots.specs.Bytes.{stored, vertexAt, letterAt, parentAt}
+use Rattle.slots.specs.Bytes.{withSlot, vertexAt, letterAt, parentAt}
 
 -- the bytes 33 to 39
 abbrev pub tailBytes : ℕ → ℕ → List ℕ
@@ -113,39 +113,39 @@ module _ (work : List ℕ) (s : ℕ) (v : Vertex) (a p : ℕ) (rest : List ℕ) 
 
 -- the work buffer with a slot written
 module _ (work : List ℕ) (n : ℕ) (v : Vertex) (a p : ℕ) (fits : n * slotSize + slotSize ≤ length work) where
-  pub stored-shows : drop (n * slotSize) (stored work n v a p) ≡ slotBytes v a p ++ drop (n * slotSize + slotSize) work
-  unfolding stored
-  stored-shows = drop-at (take (n * slotSize) work) (slotBytes v a p ++ drop (n * slotSize + slotSize) work) (n * slotSize)
+  pub with-slot-shows : drop (n * slotSize) (withSlot work n v a p) ≡ slotBytes v a p ++ drop (n * slotSize + slotSize) work
+  unfolding withSlot
+  with-slot-shows = drop-at (take (n * slotSize) work) (slotBytes v a p ++ drop (n * slotSize + slotSize) work) (n * slotSize)
       (length-take-le (n * slotSize) work (omega arith))
 
-  pub stored-long : length (v .counters) ≡ 32 → length (stored work n v a p) ≡ length work
-  unfolding stored
-  stored-long l =
+  pub with-slot-long : length (v .counters) ≡ 32 → length (withSlot work n v a p) ≡ length work
+  unfolding withSlot
+  with-slot-long l =
       let k = slot-long v a p l in
       let t = length-take-le (n * slotSize) work (omega arith) in
       simp (length-append, length-drop) (omega arith)
 
-  stored-byte : (j : ℕ) → j < n * slotSize → getD (stored work n v a p) j 0 ≡ getD work j 0
-  unfolding stored
-  stored-byte j h =
+  with-slot-byte : (j : ℕ) → j < n * slotSize → getD (withSlot work n v a p) j 0 ≡ getD work j 0
+  unfolding withSlot
+  with-slot-byte j h =
       let t : length (take (n * slotSize) work) ≡ n * slotSize = length-take-le (n * slotSize) work (omega arith) in
       List·getD-append (take (n * slotSize) work) (slotBytes v a p ++ drop (n * slotSize + slotSize) work) 0 j (omega arith)
       ∙ getD-take (n * slotSize) work j 0 h
 
-  pub stored-vertex : length (v .counters) ≡ 32 → vertexAt (stored work n v a p) n ≡ v
-  stored-vertex l = vertex-read (stored work n v a p) n v a p (drop (n * slotSize + slotSize) work) stored-shows l
+  pub with-slot-vertex : length (v .counters) ≡ 32 → vertexAt (withSlot work n v a p) n ≡ v
+  with-slot-vertex l = vertex-read (withSlot work n v a p) n v a p (drop (n * slotSize + slotSize) work) with-slot-shows l
 
   -- the slots below are as they were
-  pub stored-below : (s : ℕ) → length (v .counters) ≡ 32 → s < n → vertexAt (stored work n v a p) s ≡ vertexAt work s
+  pub with-slot-below : (s : ℕ) → length (v .counters) ≡ 32 → s < n → vertexAt (withSlot work n v a p) s ≡ vertexAt work s
   unfolding vertexAt
-  stored-below s l h =
-      let m = stored-long l in
-      let new : List ℕ = take 32 (drop (s * slotSize + 1) (stored work n v a p)) in
+  with-slot-below s l h =
+      let m = with-slot-long l in
+      let new : List ℕ = take 32 (drop (s * slotSize + 1) (withSlot work n v a p)) in
       let old : List ℕ = take 32 (drop (s * slotSize + 1) work) in
-      ap₂ (λ (x : ℕ) (cs : List ℕ). record { left = x; counters = cs }) (stored-byte (s * slotSize) (omega arith))
+      ap₂ (λ (x : ℕ) (cs : List ℕ). record { left = x; counters = cs }) (with-slot-byte (s * slotSize) (omega arith))
       (ext-getD 0 new old (simp (length-take, length-drop) (omega arith))
       (λ i q.
       let j : i < 32 = omega (arith, simp length-take at q) in
-      getD-take 32 (drop (s * slotSize + 1) (stored work n v a p)) i 0 j ∙ getD-drop (s * slotSize + 1) (stored work n v a p) i 0
-      ∙ stored-byte (s * slotSize + 1 + i) (omega arith)
+      getD-take 32 (drop (s * slotSize + 1) (withSlot work n v a p)) i 0 j ∙ getD-drop (s * slotSize + 1) (withSlot work n v a p) i 0
+      ∙ with-slot-byte (s * slotSize + 1 + i) (omega arith)
       ∙ sym (getD-drop (s * slotSize + 1) work i 0) ∙ sym (getD-take 32 (drop (s * slotSize + 1) work) i 0 j)))

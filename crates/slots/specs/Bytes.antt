@@ -1,8 +1,8 @@
 -- What the bytes of the work buffer say (01, "The walk"), for the contracts of the code that writes and reads slots.
---   stored work s v a p   the work buffer with the slot of the vertex v, found by letter a from slot p, written as slot s
+--   withSlot work s v a p   the work buffer with the slot of the vertex v, found by letter a from slot p, written as slot s
 --   vertexAt work s       the vertex in slot s: "byte 0 left state, 1-32 counters"
 --   letterAt, parentAt    of slot s: "33 letter, 34-35 parent's slot number (low byte first)"
---   Found, lastBelow      the last of the first n slots that holds the vertex v, or nothing
+--   Found, lastBelow      the last of the first n slots that slot_has the vertex v, or nothing
 --   hashOf v              the hash of a vertex, a number below 4096: its left state and the hash of its counters
 --   topBelow work h n     1 + the last of the first n slots whose vertex has the hash h, or 0
 --   Indexed               heads[h] is 1 + the last of the n slots with hash h, nexts[s] the same of the slots below s with the hash of s
@@ -21,8 +21,8 @@ use Rattle.slots.specs.declared.Found.{Found}
 use Rattle.slots.specs.declared.Found.the-variants.{At, Nothing}
 use Rattle.slots.specs.Slots.{slotSize, maxSlots, sameVertex, slotBytes}
 
-unfoldable pub stored : List ℕ → ℕ → Vertex → ℕ → ℕ → List ℕ
-stored work s v a p = take (s * slotSize) work ++ (slotBytes v a p ++ drop (s * slotSize + slotSize) work)
+unfoldable pub withSlot : List ℕ → ℕ → Vertex → ℕ → ℕ → List ℕ
+withSlot work s v a p = take (s * slotSize) work ++ (slotBytes v a p ++ drop (s * slotSize + slotSize) work)
 
 unfoldable pub vertexAt : List ℕ → ℕ → Vertex
 vertexAt work s = record { left = getD work (s * slotSize) 0; counters = take maxStates (drop (s * slotSize + 1) work) }

@@ -4,7 +4,7 @@ ghost use mathlib.Core.List.{_++_};
 ghost use Prim.Native.Nat.{_+_, _*_, _%_, _^_, _<_, _≤_};
 ghost use lib.ListN.{length, getD, set, drop};
 ghost use Rattle.slots.specs.Slots.{slotCount, slotSize, maxSlots, sameVertex, allZero, slotBytes};
-ghost use Rattle.slots.specs.Bytes.{stored, vertexAt, letterAt, parentAt, lastBelow, hashes, fourFrom, countersHash, hashOf, Indexed, Falls, wordAt};
+ghost use Rattle.slots.specs.Bytes.{withSlot, vertexAt, letterAt, parentAt, lastBelow, hashes, fourFrom, countersHash, hashOf, Indexed, Falls, wordAt};
 
 // The bytes of a slot.
 pub const SLOT_SIZE: usize = 40;
@@ -18,7 +18,7 @@ pub struct Vertex {
     pub counters: [u8; 32],
 }
 
-// The slot that holds a vertex, where one does.
+// The slot that slot_has a vertex, where one does.
 pub enum Found {
     At(usize),
     Nothing,
@@ -66,9 +66,9 @@ pub fn put_slot(part: &mut [u8], v: Vertex, letter: u8, parent: usize)
 }
 
 // Writes slot s of the work buffer, which is lent to the slot writer from that slot's offset on.
-pub fn store(work: &mut [u8], s: usize, v: Vertex, letter: u8, parent: usize)
+pub fn write_slot(work: &mut [u8], s: usize, v: Vertex, letter: u8, parent: usize)
     requires { ⌜ (s < slotCount (length (now work))) × (parent < 65536) ⌝ }
-    ensures { λ _. ⌜ now (work .exit) ≡ stored (now (work .entry)) s v letter parent ⌝ }
+    ensures { λ _. ⌜ now (work .exit) ≡ withSlot (now (work .entry)) s v letter parent ⌝ }
 {
     let at = s * SLOT_SIZE;
     put_slot(&mut work[at..], v, letter, parent);
@@ -93,8 +93,8 @@ pub fn load(work: &[u8], s: usize) -> Vertex
     }
 }
 
-// Whether slot s holds the vertex.
-pub fn holds(work: &[u8], s: usize, v: Vertex) -> bool
+// Whether slot s slot_has the vertex.
+pub fn slot_has(work: &[u8], s: usize, v: Vertex) -> bool
     requires { ⌜ s < slotCount (length (now work)) ⌝ }
     ensures { λ r. ⌜ r ≡ sameVertex v (vertexAt (now (work .entry)) s) ⌝ }
 {
@@ -143,7 +143,7 @@ pub fn vertex_hash(v: Vertex, part: usize) -> usize
     (automaton::wide(v.left) * 127 + part) % 4096
 }
 
-// The last of the first n slots that holds the vertex, whose hash is h: it lies on the chain of h.
+// The last of the first n slots that slot_has the vertex, whose hash is h: it lies on the chain of h.
 pub fn find(work: &[u8], heads: &[u16], nexts: &[u16], n: usize, v: Vertex, h: usize) -> Found
     requires { ⌜ (n ≤ slotCount (length (now work))) × (h ≡ hashOf v) × (h < hashes) × Indexed (now work) (now heads) (now nexts) n ⌝ }
     ensures { λ r. ⌜ r ≡ lastBelow (now (work .entry)) v n ⌝ }
@@ -151,7 +151,7 @@ pub fn find(work: &[u8], heads: &[u16], nexts: &[u16], n: usize, v: Vertex, h: u
     let mut c = heads[h] as usize;
     while c > 0 {
         let s = c - 1;
-        if holds(work, s, v) {
+        if slot_has(work, s, v) {
             return Found::At(s);
         }
         c = nexts[s] as usize;
@@ -181,10 +181,10 @@ pub fn append(
     h: usize,
 )
     requires { ⌜ (n < slotCount (length (now work))) × (parent < 65536) × (h ≡ hashOf v) × (h < hashes) × Indexed (now work) (now heads) (now nexts) n ⌝ }
-    ensures bytes { λ _. ⌜ now (work .exit) ≡ stored (now (work .entry)) n v letter parent ⌝ }
+    ensures bytes { λ _. ⌜ now (work .exit) ≡ withSlot (now (work .entry)) n v letter parent ⌝ }
     ensures index { λ _. ⌜ Indexed (now (work .exit)) (now (heads .exit)) (now (nexts .exit)) (n + 1) ⌝ }
 {
-    store(work, n, v, letter, parent);
+    write_slot(work, n, v, letter, parent);
     link(heads, nexts, n, h);
 }
 

@@ -16,10 +16,10 @@ use Rattle.automaton.specs.Ranges.{some, table}
 use Rattle.automaton.specs.Sets.{bit}
 use Rattle.automaton.specs.Automata.{accepts, transition, transitionBit, InRange}
 use Rattle.automaton.specs.Members.{transitionIn}
-use Rattle.relations.specs.Closure.{related, holdsRow}
+use Rattle.relations.specs.Closure.{related, rowHas}
 use Rattle.lassos.specs.Verdict.{inSet, onLetter, onWord, loopRuns, loopVisits}
 use Rattle.unions.specs.Unions.{chosen, groupsFor}
-use Rattle.verdict.specs.Words.{setOf, HeldRows, HeldAccepting, Met, Turned}
+use Rattle.verdict.specs.Words.{setOf, HeldRows, HeldAccepting, Met, PairsOf}
 use Rattle.automaton.proofs.Tests.{and-both, both-and, same-test, not-T-false}
 use Rattle.automaton.proofs.Bits.{bit-zero}
 use Rattle.automaton.proofs.Ranges.{table-at, some-below}
@@ -32,7 +32,7 @@ use Rattle.unions.proofs.UnionTables.{groups-enough}
 -- The rows of an automaton in range.
 
 pub rows-held : (A : Automaton) → InRange A → (rows : List ℕ)
-    → ((a p q : ℕ) → a < A .letters → p < 32 → holdsRow rows (a * 32 + p) q ≡ (ltb q 32 && transitionIn (A .transitions) p a q))
+    → ((a p q : ℕ) → a < A .letters → p < 32 → rowHas rows (a * 32 + p) q ≡ (ltb q 32 && transitionIn (A .transitions) p a q))
     → HeldRows A (A .states) (A .letters) rows
 unfolding transition
 rows-held A r rows e =
@@ -71,12 +71,12 @@ module _ (A : Automaton) (n k : ℕ) (rows : List ℕ) (h : HeldRows A n k rows)
 
   -- the values of the targets of p, chosen by a word that has the targets
   pub targets-choose : (p a choice : ℕ) → ((t : ℕ) → t < 32 → bit choice t ≡ transition A p a t) → (values : List ℕ) (x : ℕ)
-      → chosen values 0 (groupsFor n * 4) choice x ≡ some (λ t. transition A p a t && holdsRow values t x) n 0
+      → chosen values 0 (groupsFor n * 4) choice x ≡ some (λ t. transition A p a t && rowHas values t x) n 0
   targets-choose p a choice e values x =
-      some-same _ (λ t. transition A p a t && holdsRow values t x) (groupsFor n * 4)
+      some-same _ (λ t. transition A p a t && rowHas values t x) (groupsFor n * 4)
       (λ t l. ap₂ (λ (b : Bool) (i : ℕ). b && bit (getD values i 0) x) (e t (omega (arith, groups .0))) (zero-add t))
-      ∙ some-cut _ (λ t. transition A p a t && holdsRow values t x) n (groupsFor n * 4) (groups .1) (λ t l. refl)
-      (λ t l. ap (λ (b : Bool). b && holdsRow values t x) (no-target p a t l))
+      ∙ some-cut _ (λ t. transition A p a t && rowHas values t x) n (groupsFor n * 4) (groups .1) (λ t l. refl)
+      (λ t l. ap (λ (b : Bool). b && rowHas values t x) (no-target p a t l))
 
   -- One letter of the stem.
 
@@ -118,9 +118,9 @@ module _ (A : Automaton) (n k : ℕ) (rows : List ℕ) (h : HeldRows A n k rows)
 
   -- One letter in front of the loop word.
 
-  pub turned-begins : (pairs : List ℕ) → ((p q : ℕ) → p < n → holdsRow pairs p q ≡ eqb p q) → Turned A n [] pairs
+  pub pairs-begin : (pairs : List ℕ) → ((p q : ℕ) → p < n → rowHas pairs p q ≡ eqb p q) → PairsOf A n [] pairs
   unfolding loopRuns loopVisits
-  turned-begins pairs e =
+  pairs-begin pairs e =
       let m = h .in-range .few-states in
       let s = h .states in
       record {
@@ -129,12 +129,12 @@ module _ (A : Automaton) (n k : ℕ) (rows : List ℕ) (h : HeldRows A n k rows)
             ∙ sym (related-relation (A .states) (λ x y. false) p q (omega arith) (omega arith));
       }
 
-  pub turned-on : (a accepting : ℕ) (v pairs after pairs′ : List ℕ) → HeldAccepting A accepting → Turned A n v pairs
+  pub pairs-on : (a accepting : ℕ) (v pairs after pairs′ : List ℕ) → HeldAccepting A accepting → PairsOf A n v pairs
       → Met n accepting pairs after
-      → ((p x : ℕ) → p < n → holdsRow pairs′ p x ≡ some (λ t. transition A p a t && holdsRow after t x) n 0)
-      → Turned A n (a ∷ v) pairs′
+      → ((p x : ℕ) → p < n → rowHas pairs′ p x ≡ some (λ t. transition A p a t && rowHas after t x) n 0)
+      → PairsOf A n (a ∷ v) pairs′
   unfolding loopRuns loopVisits
-  turned-on a accepting v pairs after pairs′ held t m e =
+  pairs-on a accepting v pairs after pairs′ held t m e =
       let few = h .in-range .few-states in
       let s = h .states in
       record {

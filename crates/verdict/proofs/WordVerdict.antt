@@ -11,9 +11,9 @@ use Rattle.automaton.specs.declared.Automaton.{Automaton}
 use Rattle.automaton.specs.Ranges.{some}
 use Rattle.automaton.specs.Sets.{bit, withBit, member}
 use Rattle.automaton.specs.Automata.{accepts}
-use Rattle.relations.specs.Closure.{related, relation, closure, reaches, holdsRow}
+use Rattle.relations.specs.Closure.{related, relation, closure, reaches, rowHas}
 use Rattle.lassos.specs.Verdict.{inSet, only, onWord, loopRuns, loopVisits, accepted}
-use Rattle.verdict.specs.Words.{setOf, HeldAccepting, turnsFrom}
+use Rattle.verdict.specs.Words.{setOf, HeldAccepting, returnsFrom}
 use Rattle.automaton.proofs.Tests.{and-both, both-and, same-test}
 use Rattle.automaton.proofs.Ranges.{table-at, some-at, some-below}
 use Rattle.automaton.proofs.Bits.{bit-zero, bit-with}
@@ -23,9 +23,9 @@ use Rattle.verdict.proofs.Pairs.{low-half}
 
 -- Two searches.
 
-search-turned : (f : ℕ → Bool) (g : ℕ → ℕ → Bool) (h : ℕ → Bool) (n : ℕ)
+search-swapped : (f : ℕ → Bool) (g : ℕ → ℕ → Bool) (h : ℕ → Bool) (n : ℕ)
     → some (λ r. some (λ p. f p && g p r) n 0 && h r) n 0 ≡ some (λ p. f p && some (λ r. g p r && h r) n 0) n 0
-search-turned f g h n = same-test _ _ there back
+search-swapped f g h n = same-test _ _ there back
   where
     there : T (some (λ r. some (λ p. f p && g p r) n 0 && h r) n 0) → T (some (λ p. f p && some (λ r. g p r && h r) n 0) n 0)
     there t =
@@ -47,8 +47,8 @@ search-turned f g h n = same-test _ _ there back
         (both-and (some (λ p. f p && g p (r .0)) n 0) (h (r .0))
         (some-at (λ p. f p && g p (r .0)) n (p .0) (p .1) (both-and (f (p .0)) (g (p .0) (r .0)) (a .0) (b .0))) (b .1))
 
-eqb-turned : (a b : ℕ) → eqb a b ≡ eqb b a
-eqb-turned a b =
+eqb-swapped : (a b : ℕ) → eqb a b ≡ eqb b a
+eqb-swapped a b =
     same-test (eqb a b) (eqb b a)
     (λ t. subst (λ (x : ℕ). T (eqb x a)) (eqb→eq a b t) (eqb-refl a))
     (λ t. subst (λ (x : ℕ). T (eqb x b)) (eqb→eq b a t) (eqb-refl b))
@@ -71,7 +71,7 @@ module _ (A : Automaton) where
   -- a word with the state p alone
   pub only-set : (p w : ℕ) → ((q : ℕ) → bit w q ≡ eqb p q) → setOf (A .states) w ≡ only A p
   unfolding only
-  only-set p w e = table-same (bit w) (λ q. eqb q p) (A .states) (λ q h. e q ∙ eqb-turned p q)
+  only-set p w e = table-same (bit w) (λ q. eqb q p) (A .states) (λ q h. e q ∙ eqb-swapped p q)
 
   -- the relation of the loop word is a relation of the states
   loop-relation : (v : List ℕ) → relation (A .states) (related (loopRuns A v)) ≡ loopRuns A v
@@ -83,18 +83,18 @@ module _ (A : Automaton) where
     -- from the rows `runs` of the loop word, closed and then with the diagonal
     pub words-decide : (ends : ℕ) (runs closed joined visits : List ℕ)
         → setOf (A .states) ends ≡ onWord A (only A (A .initial)) u
-        → ((p q : ℕ) → p < A .states → q < A .states → holdsRow runs p q ≡ related (loopRuns A v) p q)
-        → ((p q : ℕ) → p < A .states → q < A .states → holdsRow visits p q ≡ related (loopVisits A v) p q)
+        → ((p q : ℕ) → p < A .states → q < A .states → rowHas runs p q ≡ related (loopRuns A v) p q)
+        → ((p q : ℕ) → p < A .states → q < A .states → rowHas visits p q ≡ related (loopVisits A v) p q)
         → ((p q : ℕ) → p < A .states → q < A .states
-        → holdsRow closed p q ≡ related (closure (A .states) (relation (A .states) (holdsRow runs))) p q)
-        → ((p q : ℕ) → p < A .states → holdsRow joined p q ≡ (eqb p q || holdsRow closed p q))
-        → turnsFrom (A .states) joined visits ends ≡ accepted A u v
-    unfolding turnsFrom accepted
+        → rowHas closed p q ≡ related (closure (A .states) (relation (A .states) (rowHas runs))) p q)
+        → ((p q : ℕ) → p < A .states → rowHas joined p q ≡ (eqb p q || rowHas closed p q))
+        → returnsFrom (A .states) joined visits ends ≡ accepted A u v
+    unfolding returnsFrom accepted
     words-decide ends runs closed joined visits e-ends e-runs e-visits e-closed e-joined =
         some-same _ _ n (λ r hr. ap₂ _&&_
         (some-same _ _ n (λ p hp. ap₂ _&&_ (ends-at p hp) (joined-at p r hp hr)))
         (some-same _ _ n (λ s hs. ap₂ _&&_ (e-visits r s hr hs) (joined-at s r hs hr))))
-        ∙ search-turned (inSet (onWord A (only A (A .initial)) u)) (reaches C)
+        ∙ search-swapped (inSet (onWord A (only A (A .initial)) u)) (reaches C)
         (λ r. some (λ s. related (loopVisits A v) r s && reaches C s r) n 0) n
       where
         n : ℕ
@@ -103,13 +103,13 @@ module _ (A : Automaton) where
         C : List (List Bool)
         C = closure n (loopRuns A v)
 
-        runs-table : relation n (holdsRow runs) ≡ loopRuns A v
-        runs-table = relation-same n (holdsRow runs) (related (loopRuns A v)) e-runs ∙ loop-relation v
+        runs-table : relation n (rowHas runs) ≡ loopRuns A v
+        runs-table = relation-same n (rowHas runs) (related (loopRuns A v)) e-runs ∙ loop-relation v
 
         ends-at : (p : ℕ) → p < n → bit ends p ≡ inSet (onWord A (only A (A .initial)) u) p
         ends-at p h = sym (table-at (bit ends) n p false h) ∙ ap (λ (S : List Bool). inSet S p) e-ends
 
-        joined-at : (p q : ℕ) → p < n → q < n → holdsRow joined p q ≡ reaches C p q
+        joined-at : (p q : ℕ) → p < n → q < n → rowHas joined p q ≡ reaches C p q
         joined-at p q hp hq =
             e-joined p q hp
             ∙ ap (λ (b : Bool). eqb p q || b)

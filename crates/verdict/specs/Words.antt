@@ -6,9 +6,9 @@
 --   HeldUnions A n k t       t has, for each letter of A, the unions of the choices of its rows
 --   HeldAccepting A w        the word w has the accepting states of A
 --   Met n w pairs pairs′     pairs′ are the pairs with every run of a state of w a visit besides
---   Turned A n v pairs       pairs are the pairs of the n states for the word v
+--   PairsOf A n v pairs       pairs are the pairs of the n states for the word v
 --   comesBack n runs visits r      the rows visits lead from r to some state that the rows runs lead back to r from
---   turnsFrom n runs visits ends   the rows runs lead from a state of ends to some state that comes back
+--   returnsFrom n runs visits ends   the rows runs lead from a state of ends to some state that comes back
 -- Shown by `words-decide`. Assumes nothing.
 use mathlib.Core.Path.{_≡_}
 use mathlib.Core.Bool.{Bool, _&&_, _||_}
@@ -18,7 +18,7 @@ use Rattle.automaton.specs.declared.Automaton.{Automaton}
 use Rattle.automaton.specs.Ranges.{some, table}
 use Rattle.automaton.specs.Sets.{bit}
 use Rattle.automaton.specs.Automata.{accepts, transition, InRange}
-use Rattle.relations.specs.Closure.{related, holdsRow}
+use Rattle.relations.specs.Closure.{related, rowHas}
 use Rattle.lassos.specs.Verdict.{loopRuns, loopVisits}
 use Rattle.unions.specs.Unions.{Unions, groupsFor}
 
@@ -29,7 +29,7 @@ pub record HeldRows (A : Automaton) (n k : ℕ) (rows : List ℕ) : Type 0 where
   pub in-range : InRange A
   pub states : A .states ≡ n
   pub letters : A .letters ≡ k
-  pub targets : (a p q : ℕ) → a < k → p < 32 → q < 32 → holdsRow rows (a * 32 + p) q ≡ transition A p a q
+  pub targets : (a p q : ℕ) → a < k → p < 32 → q < 32 → rowHas rows (a * 32 + p) q ≡ transition A p a q
 
 pub record HeldUnions (A : Automaton) (n k : ℕ) (tables : List ℕ) : Type 0 where
   pub rows : List ℕ
@@ -40,16 +40,16 @@ abbrev pub HeldAccepting : Automaton → ℕ → Type 0
 HeldAccepting A w = (q : ℕ) → q < A .states → bit w q ≡ accepts A q
 
 pub record Met (n accepting : ℕ) (pairs pairs′ : List ℕ) : Type 0 where
-  pub runs : (t q : ℕ) → t < n → q < 32 → holdsRow pairs′ t q ≡ holdsRow pairs t q
+  pub runs : (t q : ℕ) → t < n → q < 32 → rowHas pairs′ t q ≡ rowHas pairs t q
   pub visits : (t q : ℕ) → t < n → q < 32
-      → holdsRow pairs′ t (32 + q) ≡ (holdsRow pairs t (32 + q) || (bit accepting t && holdsRow pairs t q))
+      → rowHas pairs′ t (32 + q) ≡ (rowHas pairs t (32 + q) || (bit accepting t && rowHas pairs t q))
 
-pub record Turned (A : Automaton) (n : ℕ) (v pairs : List ℕ) : Type 0 where
-  pub runs : (p q : ℕ) → p < n → q < n → holdsRow pairs p q ≡ related (loopRuns A v) p q
-  pub visits : (p q : ℕ) → p < n → q < n → holdsRow pairs p (32 + q) ≡ related (loopVisits A v) p q
+pub record PairsOf (A : Automaton) (n : ℕ) (v pairs : List ℕ) : Type 0 where
+  pub runs : (p q : ℕ) → p < n → q < n → rowHas pairs p q ≡ related (loopRuns A v) p q
+  pub visits : (p q : ℕ) → p < n → q < n → rowHas pairs p (32 + q) ≡ related (loopVisits A v) p q
 
 abbrev pub comesBack : ℕ → List ℕ → List ℕ → ℕ → Bool
-comesBack n runs visits r = some (λ s. holdsRow visits r s && holdsRow runs s r) n 0
+comesBack n runs visits r = some (λ s. rowHas visits r s && rowHas runs s r) n 0
 
-unfoldable pub turnsFrom : ℕ → List ℕ → List ℕ → ℕ → Bool
-turnsFrom n runs visits ends = some (λ r. some (λ p. bit ends p && holdsRow runs p r) n 0 && comesBack n runs visits r) n 0
+unfoldable pub returnsFrom : ℕ → List ℕ → List ℕ → ℕ → Bool
+returnsFrom n runs visits ends = some (λ r. some (λ p. bit ends p && rowHas runs p r) n 0 && comesBack n runs visits r) n 0

@@ -13,10 +13,10 @@ ghost use Rattle.automaton.specs.Ranges.{some};
 ghost use Rattle.automaton.specs.Sets.{bit};
 ghost use Rattle.automaton.specs.Automata.{transition, InRange};
 ghost use Rattle.automaton.specs.Members.{transitionIn};
-ghost use Rattle.relations.specs.Closure.{related, holdsRow};
+ghost use Rattle.relations.specs.Closure.{related, rowHas};
 ghost use Rattle.lassos.specs.Verdict.{only, onLetter, onWord, loopRuns, loopVisits, accepted};
 ghost use Rattle.unions.specs.Unions.{Unions, groupsFor};
-ghost use Rattle.verdict.specs.Words.{setOf, HeldRows, HeldUnions, HeldAccepting, Met, Turned, comesBack, turnsFrom};
+ghost use Rattle.verdict.specs.Words.{setOf, HeldRows, HeldUnions, HeldAccepting, Met, PairsOf, comesBack, returnsFrom};
 
 // The entries of the unions of one letter: 16 for every four of its 32 rows.
 const UNIONS: usize = 128;
@@ -26,7 +26,7 @@ fn letter_rows(transitions: &[u8; 2048], letters: usize, rows: &mut [u64])
     requires { ⌜ (letters ≤ 16) × (letters * 32 ≤ length (now rows)) ⌝ }
     ensures first { λ _. ⌜
         ((a p q : ℕ) → a < letters → p < 32
-        → holdsRow (now (rows .exit)) (a * 32 + p) q ≡ (ltb q 32 && transitionIn (now (transitions .entry)) p a q))
+        → rowHas (now (rows .exit)) (a * 32 + p) q ≡ (ltb q 32 && transitionIn (now (transitions .entry)) p a q))
         ⌝ }
     ensures others { λ _. ⌜ ((i : ℕ) → letters * 32 ≤ i → getD (now (rows .exit)) i 0 ≡ getD (now (rows .entry)) i 0) ⌝ }
 {
@@ -94,7 +94,14 @@ fn stem_ends(rows: &[u64], letters: usize, n: usize, p: usize, stem: &[u8]) -> u
 {
     let mut tables = [0u64; 2048];
     letter_unions(rows, letters, n, &mut tables);
-    (on_word(&tables, letters, n, relations::with_state(0, p) as u64, stem) % 4294967296) as u32
+    (on_word(
+        &tables,
+        letters,
+        n,
+        relations::with_state(0, p) as u64,
+        stem,
+    )
+        % 4294967296) as u32
 }
 
 // The targets of p on the letter; there are none where the automaton lacks the letter.
@@ -119,7 +126,7 @@ fn met(pair: u64, accepting: u32, t: usize) -> u64
     ensures { λ r. ⌜ ((q : ℕ) → q < 32 → bit r q ≡ bit pair q) ⌝ }
     ensures { λ r. ⌜ ((q : ℕ) → q < 32 → bit r (32 + q) ≡ (bit pair (32 + q) || (bit accepting t && bit pair q))) ⌝ }
 {
-    if relations::holds(accepting, t) {
+    if relations::has(accepting, t) {
         pair | (pair % 4294967296) * 4294967296
     } else {
         pair
@@ -147,7 +154,7 @@ fn join_pairs(rows: &[u64], letters: usize, letter: u8, table: &[u64], n: usize,
     ensures { λ _. ⌜
         ((A : Automaton) (values : List ℕ) → HeldRows A n letters (now (rows .entry))
         → Unions (now (table .entry)) 0 values 0 (groupsFor n)
-        → (p x : ℕ) → p < n → holdsRow (now (pairs .exit)) p x ≡ some (λ t. transition A p letter t && holdsRow values t x) n 0)
+        → (p x : ℕ) → p < n → rowHas (now (pairs .exit)) p x ≡ some (λ t. transition A p letter t && rowHas values t x) n 0)
         ⌝ }
 {
     let mut p: usize = 0;
@@ -158,7 +165,7 @@ fn join_pairs(rows: &[u64], letters: usize, letter: u8, table: &[u64], n: usize,
 }
 
 // The pairs of n states for a word with the letter in front; `after` and `table` are room to work in.
-fn turn_letter(
+fn prepend_letter(
     rows: &[u64],
     letters: usize,
     n: usize,
@@ -174,7 +181,7 @@ fn turn_letter(
         ⌝ }
     ensures { λ _. ⌜
         ((A : Automaton) (v : List ℕ) → HeldRows A n letters (now (rows .entry)) → HeldAccepting A accepting
-        → Turned A n v (now (pairs .entry)) → Turned A n (letter ∷ v) (now (pairs .exit)))
+        → PairsOf A n v (now (pairs .entry)) → PairsOf A n (letter ∷ v) (now (pairs .exit)))
         ⌝ }
 {
     met_pairs(pairs, n, accepting, after);
@@ -183,24 +190,31 @@ fn turn_letter(
 }
 
 // The pairs of n states for the loop word, letter by letter from its end.
-fn turn_word(rows: &[u64], letters: usize, n: usize, accepting: u32, turn: &[u8], pairs: &mut [u64])
+fn word_pairs(
+    rows: &[u64],
+    letters: usize,
+    n: usize,
+    accepting: u32,
+    cycle: &[u8],
+    pairs: &mut [u64],
+)
     requires { ⌜ (letters ≤ 16) × (letters * 32 ≤ length (now rows)) × (n ≤ 32) × (n ≤ length (now pairs)) ⌝ }
     ensures { λ _. ⌜
         ((A : Automaton) → HeldRows A n letters (now (rows .entry)) → HeldAccepting A accepting
-        → Turned A n [] (now (pairs .entry)) → Turned A n (now (turn .entry)) (now (pairs .exit)))
+        → PairsOf A n [] (now (pairs .entry)) → PairsOf A n (now (cycle .entry)) (now (pairs .exit)))
         ⌝ }
 {
     let mut after = [0u64; MAX_STATES];
     let mut table = [0u64; UNIONS];
-    let mut i = turn.len();
+    let mut i = cycle.len();
     while i > 0 {
         i -= 1;
-        turn_letter(
+        prepend_letter(
             rows,
             letters,
             n,
             accepting,
-            turn[i],
+            cycle[i],
             &mut after,
             &mut table,
             pairs,
@@ -211,7 +225,7 @@ fn turn_word(rows: &[u64], letters: usize, n: usize, accepting: u32, turn: &[u8]
 // The pairs of n states for the empty word: each state leads to itself, without a visit. The places from n on stay.
 fn diagonal(pairs: &mut [u64], n: usize)
     requires { ⌜ (n ≤ 32) × (n ≤ length (now pairs)) ⌝ }
-    ensures first { λ _. ⌜ ((p q : ℕ) → p < n → holdsRow (now (pairs .exit)) p q ≡ eqb p q) ⌝ }
+    ensures first { λ _. ⌜ ((p q : ℕ) → p < n → rowHas (now (pairs .exit)) p q ≡ eqb p q) ⌝ }
     ensures others { λ _. ⌜ ((p : ℕ) → n ≤ p → getD (now (pairs .exit)) p 0 ≡ getD (now (pairs .entry)) p 0) ⌝ }
 {
     let mut p: usize = 0;
@@ -225,10 +239,10 @@ fn diagonal(pairs: &mut [u64], n: usize)
 fn halves(pairs: &[u64], n: usize, runs: &mut [u32], visits: &mut [u32])
     requires { ⌜ (n ≤ 32) × (n ≤ length (now pairs)) × (n ≤ length (now runs)) × (n ≤ length (now visits)) ⌝ }
     ensures { λ _. ⌜
-        ((p q : ℕ) → p < n → q < 32 → holdsRow (now (runs .exit)) p q ≡ holdsRow (now (pairs .entry)) p q)
+        ((p q : ℕ) → p < n → q < 32 → rowHas (now (runs .exit)) p q ≡ rowHas (now (pairs .entry)) p q)
         ⌝ }
     ensures { λ _. ⌜
-        ((p q : ℕ) → p < n → q < 32 → holdsRow (now (visits .exit)) p q ≡ holdsRow (now (pairs .entry)) p (32 + q))
+        ((p q : ℕ) → p < n → q < 32 → rowHas (now (visits .exit)) p q ≡ rowHas (now (pairs .entry)) p (32 + q))
         ⌝ }
     ensures { λ _. ⌜ ((p : ℕ) → n ≤ p → getD (now (runs .exit)) p 0 ≡ getD (now (runs .entry)) p 0) ⌝ }
     ensures { λ _. ⌜ ((p : ℕ) → n ≤ p → getD (now (visits .exit)) p 0 ≡ getD (now (visits .entry)) p 0) ⌝ }
@@ -247,7 +261,7 @@ fn loop_rows(
     letters: usize,
     n: usize,
     accepting: u32,
-    turn: &[u8],
+    cycle: &[u8],
     runs: &mut [u32],
     visits: &mut [u32],
 )
@@ -256,40 +270,40 @@ fn loop_rows(
         ⌝ }
     ensures { λ _. ⌜
         ((A : Automaton) → HeldRows A n letters (now (rows .entry)) → HeldAccepting A accepting
-        → (p q : ℕ) → p < n → q < n → holdsRow (now (runs .exit)) p q ≡ related (loopRuns A (now (turn .entry))) p q)
+        → (p q : ℕ) → p < n → q < n → rowHas (now (runs .exit)) p q ≡ related (loopRuns A (now (cycle .entry))) p q)
         ⌝ }
     ensures { λ _. ⌜
         ((A : Automaton) → HeldRows A n letters (now (rows .entry)) → HeldAccepting A accepting
-        → (p q : ℕ) → p < n → q < n → holdsRow (now (visits .exit)) p q ≡ related (loopVisits A (now (turn .entry))) p q)
+        → (p q : ℕ) → p < n → q < n → rowHas (now (visits .exit)) p q ≡ related (loopVisits A (now (cycle .entry))) p q)
         ⌝ }
 {
     let mut pairs = [0u64; MAX_STATES];
     diagonal(&mut pairs, n);
-    turn_word(rows, letters, n, accepting, turn, &mut pairs);
+    word_pairs(rows, letters, n, accepting, cycle, &mut pairs);
     halves(&pairs, n, runs, visits);
 }
 
 // Whether r is reached and comes back to itself by way of a visit.
-fn turns_at(runs: &[u32], visits: &[u32], n: usize, reached: u32, r: usize) -> bool
+fn returns_at(runs: &[u32], visits: &[u32], n: usize, reached: u32, r: usize) -> bool
     requires { ⌜ (r < n) × (n ≤ 32) × (n ≤ length (now runs)) × (n ≤ length (now visits)) ⌝ }
     ensures { λ b. ⌜ b ≡ (bit reached r && comesBack n (now (runs .entry)) (now (visits .entry)) r) ⌝ }
 {
-    if relations::holds(reached, r) {
-        relations::holds(relations::spread(runs, visits[r], n), r)
+    if relations::has(reached, r) {
+        relations::has(relations::spread(runs, visits[r], n), r)
     } else {
         false
     }
 }
 
 // Whether the runs lead from a state of `ends` to one that comes back to itself by way of a visit.
-fn turns(runs: &[u32], visits: &[u32], n: usize, ends: u32) -> bool
+fn some_returns(runs: &[u32], visits: &[u32], n: usize, ends: u32) -> bool
     requires { ⌜ (n ≤ 32) × (n ≤ length (now runs)) × (n ≤ length (now visits)) ⌝ }
-    ensures { λ b. ⌜ b ≡ turnsFrom n (now (runs .entry)) (now (visits .entry)) ends ⌝ }
+    ensures { λ b. ⌜ b ≡ returnsFrom n (now (runs .entry)) (now (visits .entry)) ends ⌝ }
 {
     let reached = relations::spread(runs, ends, n);
     let mut r: usize = 0;
     while r < n {
-        if turns_at(runs, visits, n, reached, r) {
+        if returns_at(runs, visits, n, reached, r) {
             return true;
         }
         r += 1;
@@ -297,10 +311,10 @@ fn turns(runs: &[u32], visits: &[u32], n: usize, ends: u32) -> bool
     false
 }
 
-// Whether the automaton accepts the lasso word of the stem and the loop `turn`; of an empty loop the answer is no.
-pub fn accepted(a: Automaton, stem: &[u8], turn: &[u8]) -> bool
+// Whether the automaton accepts the lasso word of the stem and the loop `cycle`; of an empty loop the answer is no.
+pub fn accepted(a: Automaton, stem: &[u8], cycle: &[u8]) -> bool
     requires { ⌜ InRange a ⌝ }
-    ensures { λ r. ⌜ r ≡ accepted a (now (stem .entry)) (now (turn .entry)) ⌝ }
+    ensures { λ r. ⌜ r ≡ accepted a (now (stem .entry)) (now (cycle .entry)) ⌝ }
 {
     let transitions = a.transitions;
     let accepting = a.accepting;
@@ -316,11 +330,11 @@ pub fn accepted(a: Automaton, stem: &[u8], turn: &[u8]) -> bool
         letters,
         n,
         relations::of_bytes(&accepting),
-        turn,
+        cycle,
         &mut runs,
         &mut visits,
     );
     relations::close(&mut runs, n);
     relations::add_diagonal(&mut runs, n);
-    turns(&runs, &visits, n, ends)
+    some_returns(&runs, &visits, n, ends)
 }

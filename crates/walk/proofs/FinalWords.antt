@@ -16,12 +16,12 @@ use Rattle.walk.specs.declared.Walked.the-variants.{Ended}
 use Rattle.graph.specs.Discovery.{Graph, Node, ended, root, at, back, wordTo}
 use Rattle.graph.specs.LagGraph.{lagGraph}
 use Rattle.graph.specs.Walks.{wordOf, Fits, wordAfter}
-use Rattle.walk.specs.Shown.{Wide, Shown, FoundFinal, WordRead}
-use Rattle.graph.proofs.Visits.{at-left, at-last, length-snoc}
+use Rattle.walk.specs.Representation.{Wide, Represents, FoundFinal, WordRead}
+use Rattle.graph.proofs.Discoveries.{at-left, at-last, length-snoc}
 use Rattle.graph.proofs.Parents.{Linked}
 use Rattle.graph.proofs.Words.{word-step}
 use Rattle.graph.proofs.WalkTheorem.{walk-ended, list-links, list-in-range}
-use Rattle.walk.proofs.ShownSlots.{slot-shown, shown-length}
+use Rattle.walk.proofs.RepresentedSlots.{slot-represented, represented-length}
 
 all-wide : (ns : List (Node Vertex)) (d : Node Vertex) → ((i : ℕ) → i < length ns → length (getD ns i d .vertex .counters) ≡ maxStates)
     → Wide ns
@@ -54,8 +54,8 @@ module _ (work : List ℕ) (place letter parent : ℕ) (E : FoundFinal work plac
       (ended (E .nodes) (E .last)) fits i
       (omega (arith, long)) .all-counters)
 
-  shown : Shown work (Ended place letter parent) (E .start) (ended (E .nodes) (E .last))
-  shown =
+  represents : Represents work (Ended place letter parent) (E .start) (ended (E .nodes) (E .last))
+  represents =
       record {
         answer = ap₂ (λ (x : ℕ × ℕ) (p : ℕ). Ended (x .0) (x .1) p) (ap₂ (λ (x y : ℕ). (x, y)) (E .place-is) (E .letter-is))
             (E .parent-is);
@@ -66,7 +66,7 @@ module _ (work : List ℕ) (place letter parent : ℕ) (E : FoundFinal work plac
 
   slot : (i : ℕ) → i < length (E .nodes) → (letterAt work i ≡ at graph list i .letter) × (parentAt work i ≡ at graph list i .parent)
   slot i h =
-      let s = slot-shown (E .left) (E .right) (E .bound) work (Ended place letter parent) (E .start) (ended (E .nodes) (E .last)) shown
+      let s = slot-represented (E .left) (E .right) (E .bound) work (Ended place letter parent) (E .start) (ended (E .nodes) (E .last)) represents
       i h in
       let q = at-left graph (E .nodes) (E .last ∷ []) i h in
       (s .1 ∙ ap (λ (n : Node Vertex). n .letter) (sym q), s .2 ∙ ap (λ (n : Node Vertex). n .parent) (sym q))
@@ -85,7 +85,7 @@ module _ (work : List ℕ) (place letter parent : ℕ) (E : FoundFinal work plac
 
   pub parent-slot : 0 < place → parent < slotCount (length work)
   parent-slot h =
-      let l = ap slotCount (shown-length work (Ended place letter parent) (E .start) (ended (E .nodes) (E .last)) shown) in
+      let l = ap slotCount (represented-length work (Ended place letter parent) (E .start) (ended (E .nodes) (E .last)) represents) in
       omega (arith, below h, E .place-is, fits .room)
 
   pub parents-fall : 0 < place → Falls work parent
@@ -93,14 +93,14 @@ module _ (work : List ℕ) (place letter parent : ℕ) (E : FoundFinal work plac
       let l : i < length (E .nodes) = omega (arith, below h, E .place-is) in
       subst (λ (p : ℕ). p < i) (sym (slot i l .1)) (falls i a (omega (arith, long)))
 
-  back-shown : (k i : ℕ) → i < length (E .nodes) → backFrom k work i ≡ back graph k list i
-  back-shown zero i h = refl
-  back-shown (suc k) zero h = refl
-  back-shown (suc k) (suc i) h =
+  back-represented : (k i : ℕ) → i < length (E .nodes) → backFrom k work i ≡ back graph k list i
+  back-represented zero i h = refl
+  back-represented (suc k) zero h = refl
+  back-represented (suc k) (suc i) h =
       let s = slot (suc i) h in
       let f = falls (suc i) (omega arith) (omega (arith, long)) in
       ap₂ (λ (l : List ℕ) (a : ℕ). l ++ a ∷ [])
-      (ap (backFrom k work) (s .1) ∙ back-shown k (at graph list (suc i) .parent) (omega arith)) (s .0)
+      (ap (backFrom k work) (s .1) ∙ back-represented k (at graph list (suc i) .parent) (omega arith)) (s .0)
 
   pub final-empty : place ≡ 0 → wordOf (E .left) (E .right) (E .bound) (E .nodes) (E .last) ≡ []
   unfolding wordOf
@@ -113,7 +113,7 @@ module _ (work : List ℕ) (place letter parent : ℕ) (E : FoundFinal work plac
       ∙ word-step graph (links .0) list (links .1) place (omega (arith, long, E .place-is)) h
       ∙ ap (λ (n : Node Vertex). wordTo graph list (n .parent) ++ n .letter ∷ []) final-node
       ∙ ap₂ (λ (p a : ℕ). wordTo graph list p ++ a ∷ []) (sym (E .parent-is)) (sym (E .letter-is))
-      ∙ ap (λ (l : List ℕ). l ++ letter ∷ []) (sym (back-shown parent parent (omega (arith, below h, E .place-is))))
+      ∙ ap (λ (l : List ℕ). l ++ letter ∷ []) (sym (back-represented parent parent (omega (arith, below h, E .place-is))))
 
   -- What the code has read.
 

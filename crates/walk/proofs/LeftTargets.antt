@@ -17,7 +17,7 @@ use Rattle.automaton.specs.Sets.{bit, member}
 use Rattle.automaton.proofs.Ranges.{some-at}
 use Rattle.automaton.proofs.Tests.{clash, both-and, is-true, T-true}
 use Rattle.relations.proofs.Rows.{bit-and}
-use Rattle.walk.specs.Shown.{Side, StepsTo, Needed}
+use Rattle.walk.specs.Representation.{Side, StepsTo, Needed}
 use Rattle.walk.proofs.SteppedBytes.{accepts-in-range}
 
 pub last-bit : (w t k : ℕ) → w / 2 ^ t ≡ 1 → t < k → bit w k ≡ false

@@ -2,7 +2,7 @@
 pub mod SteppedBytes
 pub mod MaskRows
 pub mod LeftTargets
-pub mod ShownSlots
-pub mod Onward
-pub mod TurnLoops
+pub mod RepresentedSlots
+pub mod FoldLoops
+pub mod ExpandLoops
 pub mod FinalWords

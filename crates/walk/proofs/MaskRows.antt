@@ -9,7 +9,7 @@ use native.Mathlib.Omega.{arith}
 use lib.ListN.{length, getD, set, length-set}
 use lib.Seq.{getD-set-same, getD-set-other}
 use Rattle.automaton.specs.Members.{transitionIn}
-use Rattle.walk.specs.Shown.{Masks}
+use Rattle.walk.specs.Representation.{Masks}
 
 -- the masks of the targets of p on letter a below r stand from place `at` on, and what stands before it is as it was
 pub record RowSoFar (t : List ℕ) (p a at : ℕ) (before masks : List ℕ) (r : ℕ) : Type 0 where

@@ -23,8 +23,8 @@ use Rattle.automaton.proofs.Transitions.{transition-parts, parts-transition}
 use Rattle.slots.specs.declared.Vertex.{Vertex}
 use Rattle.graph.specs.LagGraph.{initialCounter, initialVertex, counter, stepped}
 use Rattle.walk.specs.declared.present.Present.{Present}
-use Rattle.walk.specs.Shown.{largestInto, counterFrom, NoneFrom, PresentOf}
-use Rattle.graph.proofs.Visits.{lt-or-le}
+use Rattle.walk.specs.Representation.{largestInto, counterFrom, NoneFrom, PresentOf}
+use Rattle.graph.proofs.Discoveries.{lt-or-le}
 
 -- Bits of an automaton in range.
 

@@ -1,2 +1,2 @@
 -- The contracts of the walk's code.
-pub mod Shown
+pub mod Representation

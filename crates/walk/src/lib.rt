@@ -11,11 +11,11 @@ ghost use Rattle.automaton.specs.Sets.{member, leastMembers};
 ghost use Rattle.slots.specs.declared.Vertex.{Vertex};
 ghost use Rattle.slots.specs.Slots.{slotCount};
 ghost use Rattle.slots.specs.Bytes.{countersHash};
-ghost use Rattle.graph.specs.Discovery.{below, visit as visited, visits, turn as turned, turns as turnsOf};
+ghost use Rattle.graph.specs.Discovery.{below, discover as discovering, discoverAll, expand as expanding, expandAll as expandingAll};
 ghost use Rattle.graph.specs.LagGraph.{maxBound, initialVertex, successor, lagGraph};
 ghost use Rattle.graph.specs.Walks.{walkOf, workAfter};
-ghost use Rattle.walk.specs.Shown.{walkedOf, Becomes, Ready, ReadyAfter, Side, RightSide, RulesOf, StepOf, FoundFinal, WordRead};
-ghost use Rattle.walk.specs.Shown.{vertexOf, largestInto, counterFrom, Masks, NoneFrom, PresentOf, Needed};
+ghost use Rattle.walk.specs.Representation.{walkedOf, Becomes, Ready, ReadyAfter, Side, RightSide, RulesOf, StepOf, FoundFinal, WordRead};
+ghost use Rattle.walk.specs.Representation.{vertexOf, largestInto, counterFrom, Masks, NoneFrom, PresentOf, Needed};
 
 mod masks;
 mod present;
@@ -239,8 +239,8 @@ fn rules_of(left: Automaton, right: Automaton, bound: usize) -> Rules
 
 // One successor of the vertex at place p: it is listed already, or it is final, or it takes the next slot, or it finds none. It has
 // the left state and the counters, whose hash is `part`. Each use copies the counters anew, since a copy that is also compared
-// would be taken apart byte by byte before it is stored.
-fn visit(
+// would be taken apart byte by byte before it is withSlot.
+fn discover(
     work: &mut [u8],
     heads: &mut [u16],
     nexts: &mut [u16],
@@ -254,9 +254,9 @@ fn visit(
     requires { ⌜
         Ready (now work) (now heads) (now nexts) n × (left < maxStates) × (p < 65536) × (part ≡ countersHash (now counters))
         ⌝ }
-    ensures shown { λ r. ⌜
+    ensures represents { λ r. ⌜
         ((A B : Automaton) (b : ℕ) → Becomes (now (work .entry)) n (now (work .exit)) r
-        (λ S w. visited (lagGraph A B b) (below S) p w (letter, vertexOf left (now (counters .entry)))))
+        (λ S w. discovering (lagGraph A B b) (below S) p w (letter, vertexOf left (now (counters .entry)))))
         ⌝ }
     ensures ready { λ r. ⌜ ReadyAfter r (now (work .exit)) (now (heads .exit)) (now (nexts .exit)) ⌝ }
 {
@@ -356,7 +356,7 @@ fn target_hash(accepting: &[u8; 4], lowered: usize, others: usize, t: usize) -> 
 }
 
 // The successors of a step from place p: its left targets along the left automaton's transitions, lowest first.
-fn visit_targets(
+fn discover_targets(
     accepting: &[u8; 4],
     transitions: &[u8; 2048],
     work: &mut [u8],
@@ -372,10 +372,10 @@ fn visit_targets(
         × (now table ≡ leastMembers) × (step .lowkey ≡ countersHash (step .lowered))
         × (step .otherkey ≡ countersHash (step .others))
         ⌝ }
-    ensures shown { λ r. ⌜
+    ensures represents { λ r. ⌜
         ((A B : Automaton) (b : ℕ) (v : Vertex) → Side (now (accepting .entry)) (now (transitions .entry)) A → StepOf step A B b v
         → Becomes (now (work .entry)) n (now (work .exit)) r
-        (λ S w. visits (lagGraph A B b) (below S) p w (map (successor A B b v (step .letter)) (targets A (v .left) (step .letter)))))
+        (λ S w. discoverAll (lagGraph A B b) (below S) p w (map (successor A B b v (step .letter)) (targets A (v .left) (step .letter)))))
         ⌝ }
     ensures ready { λ r. ⌜ ReadyAfter r (now (work .exit)) (now (heads .exit)) (now (nexts .exit)) ⌝ }
 {
@@ -391,7 +391,7 @@ fn visit_targets(
         let part = target_hash(accepting, lowered_hash, others_hash, t);
         let left_target = v.left;
         let counters = v.counters;
-        let seen = visit(
+        let seen = discover(
             work,
             heads,
             nexts,
@@ -412,7 +412,7 @@ fn visit_targets(
 }
 
 // The successors of the vertex v at place p on a letter; lefts are the left automaton's transitions, masks those of the right one.
-fn visit_letter(
+fn expand_letter(
     rules: Rules,
     lefts: &[u8; 2048],
     masks: &[u8; 16384],
@@ -431,10 +431,10 @@ fn visit_letter(
         × (rules .letters ≤ maxLetters) × (rules .states ≤ maxStates) × PresentOf present (v .counters) (rules .states)
         × (now table ≡ leastMembers)
         ⌝ }
-    ensures shown { λ r. ⌜
+    ensures represents { λ r. ⌜
         ((A B : Automaton) (b : ℕ) → RulesOf rules (now (lefts .entry)) (now (masks .entry)) A B b
         → Becomes (now (work .entry)) n (now (work .exit)) r
-        (λ S w. visits (lagGraph A B b) (below S) p w (map (successor A B b v letter) (targets A (v .left) letter))))
+        (λ S w. discoverAll (lagGraph A B b) (below S) p w (map (successor A B b v letter) (targets A (v .left) letter))))
         ⌝ }
     ensures ready { λ r. ⌜ ReadyAfter r (now (work .exit)) (now (heads .exit)) (now (nexts .exit)) ⌝ }
 {
@@ -460,7 +460,7 @@ fn visit_letter(
         lower,
         other,
     );
-    visit_targets(
+    discover_targets(
         &left_accepting,
         lefts,
         work,
@@ -473,8 +473,8 @@ fn visit_letter(
     )
 }
 
-// The turn of place p: all successors of its vertex, letters upwards, left targets upwards.
-fn turn(
+// Expands place p: all successors of its vertex, letters upwards, left targets upwards.
+fn expand(
     rules: Rules,
     lefts: &[u8; 2048],
     masks: &[u8; 16384],
@@ -489,9 +489,9 @@ fn turn(
         Ready (now work) (now heads) (now nexts) n × (p < n) × (rules .letters ≤ maxLetters) × (rules .states ≤ maxStates)
         × (now table ≡ leastMembers)
         ⌝ }
-    ensures shown { λ r. ⌜
+    ensures represents { λ r. ⌜
         ((A B : Automaton) (b : ℕ) → RulesOf rules (now (lefts .entry)) (now (masks .entry)) A B b
-        → Becomes (now (work .entry)) n (now (work .exit)) r (λ S. turned (lagGraph A B b) (below S) p))
+        → Becomes (now (work .entry)) n (now (work .exit)) r (λ S. expanding (lagGraph A B b) (below S) p))
         ⌝ }
     ensures ready { λ r. ⌜ ReadyAfter r (now (work .exit)) (now (heads .exit)) (now (nexts .exit)) ⌝ }
 {
@@ -502,7 +502,7 @@ fn turn(
     let mut listed = n;
     let mut letter: usize = 0;
     while letter < letters {
-        let seen = visit_letter(
+        let seen = expand_letter(
             rules,
             lefts,
             masks,
@@ -525,8 +525,8 @@ fn turn(
     Walked::Going(listed)
 }
 
-// The turns of all places, from place 0 on.
-fn turns(
+// Expands all places, from place 0 on.
+fn expand_all(
     rules: Rules,
     lefts: &[u8; 2048],
     masks: &[u8; 16384],
@@ -542,13 +542,13 @@ fn turns(
         ⌝ }
     ensures { λ r. ⌜
         ((A B : Automaton) (b : ℕ) → RulesOf rules (now (lefts .entry)) (now (masks .entry)) A B b
-        → Becomes (now (work .entry)) n (now (work .exit)) r (λ S. turnsOf (lagGraph A B b) (below S) S 0))
+        → Becomes (now (work .entry)) n (now (work .exit)) r (λ S. expandingAll (lagGraph A B b) (below S) S 0))
         ⌝ }
 {
     let mut listed = n;
     let mut p: usize = 0;
     while p < listed {
-        let seen = turn(rules, lefts, masks, work, heads, nexts, listed, p, table);
+        let seen = expand(rules, lefts, masks, work, heads, nexts, listed, p, table);
         let Walked::Going(m) = seen else {
             return seen;
         };
@@ -575,7 +575,7 @@ pub fn walk(left: Automaton, right: Automaton, bound: usize, work: &mut [u8]) ->
     let first_left = first.left;
     let first_counters = first.counters;
     let part = slots::counters_hash(first_counters);
-    let seen = visit(
+    let seen = discover(
         work,
         &mut heads,
         &mut nexts,
@@ -594,7 +594,7 @@ pub fn walk(left: Automaton, right: Automaton, bound: usize, work: &mut [u8]) ->
     let letters = left.letters;
     masks::fill(&mut masks, &right.transitions, states, letters);
     let table = automaton::least_members();
-    turns(
+    expand_all(
         rules,
         &left.transitions,
         &masks,

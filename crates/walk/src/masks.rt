@@ -5,7 +5,7 @@ ghost use mathlib.Core.Bool.{cond};
 ghost use Prim.Native.Nat.{ℕ, _+_, _*_, _<_, _≤_};
 ghost use lib.ListN.{length, getD};
 ghost use Rattle.automaton.specs.Members.{transitionIn};
-ghost use Rattle.walk.specs.Shown.{Masks};
+ghost use Rattle.walk.specs.Representation.{Masks};
 
 // The mask of a test.
 fn mask(test: bool) -> u8

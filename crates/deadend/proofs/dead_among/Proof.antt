@@ -7,7 +7,7 @@ use native.Mathlib.Omega.{arith}
 use lib.Dec.{eqb, ltb}
 use Rattle.automaton.specs.Ranges.{some}
 use Rattle.automaton.specs.Sets.{bit}
-use Rattle.relations.specs.Closure.{holdsRow}
+use Rattle.relations.specs.Closure.{rowHas}
 use Rattle.relations.proofs.Rows.{Collected, collecting-begins, collecting-goes-on}
 use Rattle.deadend.proofs.WordDeadEnds.{dead-at}
 use Rattle.deadend.proofs.dead_among.Statement.{statement}
@@ -15,7 +15,7 @@ use Rattle.deadend.proofs.dead_among.Tie as tie
 
 -- q is reached and reaches none of the states in loops
 abbrev dies : List ℕ → ℕ → ℕ → ℕ → Bool
-dies rows reached loops q = bit reached q && not (some (λ r. holdsRow rows q r && bit loops r) 32 0)
+dies rows reached loops q = bit reached q && not (some (λ r. rowHas rows q r && bit loops r) 32 0)
 
 abbrev Inv-loop : tie.InvT-loop
 Inv-loop rows n reached loops found₀ q₀ found q = (q ≤ n) × Collected (dies rows reached loops) q found

@@ -36,8 +36,8 @@ abbrev μ-loop : tie.MeasureT-loop
 loop-holds : tie.Need-loop-holds Inv-loop μ-loop
 loop-holds c = (omega arith, length-replicate {A = Bool} 32 false, λ k h. absurd (omega arith))
 
-holds-requires : tie.Need-holds-requires Inv-loop μ-loop
-holds-requires c κs = omega arith
+has-requires : tie.Need-has-requires Inv-loop μ-loop
+has-requires c κs = omega arith
 
 array-write-members : tie.Need-array-write-members Inv-loop μ-loop
 array-write-members c = omega arith
@@ -52,8 +52,8 @@ loop-again : tie.Need-loop-again Inv-loop μ-loop
 loop-again c =
     let l = c .before .before .loop in (
       omega arith,
-      length-set (l .members) (l .q) (c .holds .result) ∙ l .inv .1,
-      flag-more (c .before .before .before .args .set) (l .q) (l .members) (c .holds .result) (omega arith) (l .inv .2) (c .holds .ensures),
+      length-set (l .members) (l .q) (c .has .result) ∙ l .inv .1,
+      flag-more (c .before .before .before .args .set) (l .q) (l .members) (c .has .result) (omega arith) (l .inv .2) (c .has .ensures),
     )
 
 returns : tie.Need-returns Inv-loop μ-loop
@@ -70,7 +70,7 @@ flags-spec =
     Inv-loop
     μ-loop
     loop-holds
-    holds-requires
+    has-requires
     array-write-members
     add-q
     loop-less

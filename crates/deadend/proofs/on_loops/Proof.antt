@@ -6,14 +6,14 @@ use Prim.Native.Nat.{ℕ, _≤_, _-_}
 use native.Mathlib.Omega.{arith}
 use lib.Dec.{eqb, ltb}
 use Rattle.automaton.specs.Sets.{bit}
-use Rattle.relations.specs.Closure.{holdsRow}
+use Rattle.relations.specs.Closure.{rowHas}
 use Rattle.relations.proofs.Rows.{Collected, collecting-begins, collecting-goes-on}
 use Rattle.deadend.proofs.on_loops.Statement.{statement}
 use Rattle.deadend.proofs.on_loops.Tie as tie
 
 -- q is accepting and on a loop
 abbrev loops : List ℕ → ℕ → ℕ → Bool
-loops rows accepting q = bit accepting q && holdsRow rows q q
+loops rows accepting q = bit accepting q && rowHas rows q q
 
 abbrev Inv-loop : tie.InvT-loop
 Inv-loop rows n accepting found₀ q₀ found q = (q ≤ n) × Collected (loops rows accepting) q found

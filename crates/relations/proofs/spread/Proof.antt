@@ -7,7 +7,7 @@ use native.Mathlib.Omega.{arith}
 use lib.ListN.{getD}
 use Rattle.automaton.specs.Ranges.{some}
 use Rattle.automaton.specs.Sets.{bit}
-use Rattle.relations.specs.Closure.{holdsRow}
+use Rattle.relations.specs.Closure.{rowHas}
 use Rattle.automaton.proofs.Bits.{bit-zero}
 use Rattle.relations.proofs.Rows.{some-none, some-more, bit-with-row}
 use Rattle.relations.proofs.spread.Statement.{statement}
@@ -15,7 +15,7 @@ use Rattle.relations.proofs.spread.Tie as tie
 
 abbrev Inv-loop : tie.InvT-loop
 Inv-loop rows set n found₀ p₀ found p =
-    (p ≤ n) × ((q : ℕ) → bit found q ≡ some (λ x. bit set x && holdsRow rows x q) p 0)
+    (p ≤ n) × ((q : ℕ) → bit found q ≡ some (λ x. bit set x && rowHas rows x q) p 0)
 
 abbrev μ-loop : tie.MeasureT-loop
 μ-loop rows set n found₀ p₀ found p = n - p
@@ -45,8 +45,8 @@ loop-again c =
       omega arith,
       λ q. ap (λ (w : ℕ). bit w q) (c .with-row .ensures)
           ∙ bit-with-row (l .found) (a .set) (l .p) (getD (a .rows .now) (l .p) 0) q
-          ∙ ap (λ (b : Bool). b || (bit (a .set) (l .p) && holdsRow (a .rows .now) (l .p) q)) (l .inv .1 q)
-          ∙ sym (some-more (λ x. bit (a .set) x && holdsRow (a .rows .now) x q) (l .p)),
+          ∙ ap (λ (b : Bool). b || (bit (a .set) (l .p) && rowHas (a .rows .now) (l .p) q)) (l .inv .1 q)
+          ∙ sym (some-more (λ x. bit (a .set) x && rowHas (a .rows .now) x q) (l .p)),
     )
 
 returns : tie.Need-returns Inv-loop μ-loop
@@ -54,7 +54,7 @@ returns c q =
     let l = c .before .loop in
     let a = c .before .before .before .args in
     let e : l .p ≡ a .n = omega arith in
-    l .inv .1 q ∙ ap (λ (k : ℕ). some (λ x. bit (a .set) x && holdsRow (a .rows .now) x q) k 0) e
+    l .inv .1 q ∙ ap (λ (k : ℕ). some (λ x. bit (a .set) x && rowHas (a .rows .now) x q) k 0) e
 
 pub spread-spec : {M : Type 1} → statement M
 spread-spec =

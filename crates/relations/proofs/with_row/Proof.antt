@@ -12,14 +12,14 @@ when-held x y h e = rw e
 when-not : (x y : ℕ) (h : Bool) → h ≡ false → y ≡ cond h x y
 when-not x y h e = rw e
 
-holds-requires : tie.Need-holds-requires
-holds-requires c κs = search needs
+has-requires : tie.Need-has-requires
+has-requires c κs = search needs
 
 returns : tie.Need-returns
-returns c = when-held _ _ _ (sym (c .before .holds .ensures) ∙ c .if1 .taken)
+returns c = when-held _ _ _ (sym (c .before .has .ensures) ∙ c .if1 .taken)
 
 returns-2 : tie.Need-returns-2
-returns-2 c = when-not _ _ _ (sym (c .before .holds .ensures) ∙ c .if1 .left)
+returns-2 c = when-not _ _ _ (sym (c .before .has .ensures) ∙ c .if1 .left)
 
 pub with-row-spec : {M : Type 1} → statement M
-with-row-spec = tie.close (tie.spec holds-requires returns returns-2)
+with-row-spec = tie.close (tie.spec has-requires returns returns-2)

@@ -31,13 +31,13 @@ loop-holds c =
 sub-s : tie.Need-sub-s Inv-loop μ-loop
 sub-s c = search needs
 
-holds-requires : tie.Need-holds-requires Inv-loop μ-loop
-holds-requires c κs = search needs
+slot-has-requires : tie.Need-slot-has-requires Inv-loop μ-loop
+slot-has-requires c κs = search needs
 
 returns : tie.Need-returns Inv-loop μ-loop
 returns c =
     let l = c .before .before .before .loop in
-    let t = sym (c .before .holds .ensures) ∙ c .if1 .taken in
+    let t = sym (c .before .slot-has .ensures) ∙ c .if1 .taken in
     sym (last-here _ _ (l .c) (c .before .before .loop-test .taken) t) ∙ l .inv .rest
 
 mul-c-2 : tie.Need-mul-c-2 Inv-loop μ-loop
@@ -52,14 +52,14 @@ cast-c-2 c = omega (arith, c .shared-slice-known5 .given (c .before .before .bef
 loop-less : tie.Need-loop-less Inv-loop μ-loop
 loop-less c =
     let l = c .before .before .before .before .loop in
-    let t = sym (c .before .before .holds .ensures) ∙ c .before .if1 .left in
+    let t = sym (c .before .before .slot-has .ensures) ∙ c .before .if1 .left in
     let i = c .before .before .before .before .before .before .before .before .before .pre .3 in
     chain-next _ _ _ (l .inv .key) _ _ _ i (l .c) (l .inv) (c .before .before .before .loop-test .taken) t .1
 
 loop-again : tie.Need-loop-again Inv-loop μ-loop
 loop-again c =
     let l = c .before .before .before .before .loop in
-    let t = sym (c .before .before .holds .ensures) ∙ c .before .if1 .left in
+    let t = sym (c .before .before .slot-has .ensures) ∙ c .before .if1 .left in
     let i = c .before .before .before .before .before .before .before .before .before .pre .3 in
     chain-next _ _ _ (l .inv .key) _ _ _ i (l .c) (l .inv) (c .before .before .before .loop-test .taken) t .0
 
@@ -79,7 +79,7 @@ find-spec =
     cast-c
     loop-holds
     sub-s
-    holds-requires
+    slot-has-requires
     returns
     mul-c-2
     shared-slice-read-c-2

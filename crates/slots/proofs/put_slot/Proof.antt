@@ -1,4 +1,4 @@
--- `slots::put_slot` meets its contract. After i turns the first i counters stand behind the left state; the seven stores after the loop
+-- `slots::put_slot` meets its contract. After i rounds the first i counters stand behind the left state; the seven stores after the loop
 -- complete the slot. Assumes nothing.
 use mathlib.Core.Path.{_≡_, refl, ap, _∙_}
 use mathlib.Core.List.{List}

@@ -16,7 +16,7 @@ Inv-loop work s n₀ at₀ n at = (at ≤ s) × Falls work at × (n + length (wo
 abbrev μ-loop : tie.MeasureT-loop
 μ-loop work s n₀ at₀ n at = at
 
--- a turn goes to the parent, whose number is lower, and counts one letter
+-- a round goes to the parent, whose number is lower, and counts one letter
 falls-on : (c : tie.After-parent-of Inv-loop μ-loop) →
     (c .parent-of .result < c .before .before .loop .at) ×
     Inv-loop (c .before .before .before .before .args .work .now) (c .before .before .before .before .args .s) 0

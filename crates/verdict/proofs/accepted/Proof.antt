@@ -48,35 +48,35 @@ slice-aggregate-add-diagonal c = search needs
 add-diagonal-requires : tie.Need-add-diagonal-requires
 add-diagonal-requires c κs = search needs
 
-slice-aggregate-turns : tie.Need-slice-aggregate-turns
-slice-aggregate-turns c = search needs
+slice-aggregate-some-returns : tie.Need-slice-aggregate-some-returns
+slice-aggregate-some-returns c = search needs
 
-slice-aggregate-turns-2 : tie.Need-slice-aggregate-turns-2
-slice-aggregate-turns-2 c = search needs
+slice-aggregate-some-returns-2 : tie.Need-slice-aggregate-some-returns-2
+slice-aggregate-some-returns-2 c = search needs
 
-turns-requires : tie.Need-turns-requires
-turns-requires c κs = search needs
+some-returns-requires : tie.Need-some-returns-requires
+some-returns-requires c κs = search needs
 
 returns : tie.Need-returns
 returns c =
     let again = c .before .before .before .before in
     let shut = again .before .before .before in
-    let turned = shut .before .before .before .before in
-    let bytes = turned .before .before .before in
+    let word = shut .before .before .before .before in
+    let bytes = word .before .before .before in
     let stem = bytes .before .before .before in
     let first = stem .before .before .before in
     let entry = first .before .before .before .before .before .before .before in
     let A = entry .args .a in
     let held = rows-held A (entry .pre) (first .letter-rows .last .1 .1 .0) (first .letter-rows .ensures .0) in
     let accepting = accepting-held A (entry .pre .few-states) (bytes .of-bytes .result) (bytes .of-bytes .ensures) in
-    let runs = turned .loop-rows .last .1 .1 .1 .1 .1 .0 in
+    let runs = word .loop-rows .last .1 .1 .1 .1 .1 .0 in
     let closed = shut .close .last .0 in
     let joined = again .add-diagonal .last .0 in
-    c .turns .ensures
-    ∙ words-decide A _ _ (stem .stem-ends .result) runs closed joined (turned .loop-rows .last .1 .1 .1 .1 .1 .1 .0)
+    c .some-returns .ensures
+    ∙ words-decide A _ _ (stem .stem-ends .result) runs closed joined (word .loop-rows .last .1 .1 .1 .1 .1 .1 .0)
     (stem .stem-ends .ensures A held)
-    (turned .loop-rows .ensures .0 A held accepting)
-    (turned .loop-rows .ensures .1 A held accepting)
+    (word .loop-rows .ensures .0 A held accepting)
+    (word .loop-rows .ensures .1 A held accepting)
     (closed-rows (A .states) runs closed (shut .close .ensures) (omega arith))
     (diagonal-rows (A .states) closed joined (again .add-diagonal .ensures) (omega arith))
 
@@ -97,7 +97,7 @@ accepted-spec =
     close-requires
     slice-aggregate-add-diagonal
     add-diagonal-requires
-    slice-aggregate-turns
-    slice-aggregate-turns-2
-    turns-requires
+    slice-aggregate-some-returns
+    slice-aggregate-some-returns-2
+    some-returns-requires
     returns)

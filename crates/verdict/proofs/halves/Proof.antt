@@ -5,7 +5,7 @@ use Prim.Native.Nat.{ℕ, _+_, _/_, _%_, _-_, _≤_, _<_}
 use native.Mathlib.Omega.{arith}
 use lib.ListN.{length, getD, length-set}
 use Rattle.automaton.specs.Sets.{bit}
-use Rattle.relations.specs.Closure.{holdsRow}
+use Rattle.relations.specs.Closure.{rowHas}
 use Rattle.relations.proofs.Rows.{Rewritten, rewriting-begins, rewriting-goes-on}
 use Rattle.verdict.proofs.Pairs.{low-half, high-half}
 use Rattle.verdict.proofs.halves.Statement.{statement}
@@ -13,10 +13,10 @@ use Rattle.verdict.proofs.halves.Tie as tie
 
 -- the word w has the low half, the high half of the pair of p
 abbrev Low : List ℕ → ℕ → ℕ → Type 0
-Low pairs p w = (q : ℕ) → q < 32 → bit w q ≡ holdsRow pairs p q
+Low pairs p w = (q : ℕ) → q < 32 → bit w q ≡ rowHas pairs p q
 
 abbrev High : List ℕ → ℕ → ℕ → Type 0
-High pairs p w = (q : ℕ) → q < 32 → bit w q ≡ holdsRow pairs p (32 + q)
+High pairs p w = (q : ℕ) → q < 32 → bit w q ≡ rowHas pairs p (32 + q)
 
 abbrev Inv-loop : tie.InvT-loop
 Inv-loop pairs n runs₀ visits₀ p₀ runs visits p =

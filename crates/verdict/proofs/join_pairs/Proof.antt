@@ -9,7 +9,7 @@ use Rattle.automaton.specs.declared.Automaton.{Automaton}
 use Rattle.automaton.specs.Ranges.{some}
 use Rattle.automaton.specs.Sets.{bit}
 use Rattle.automaton.specs.Automata.{transition}
-use Rattle.relations.specs.Closure.{holdsRow}
+use Rattle.relations.specs.Closure.{rowHas}
 use Rattle.unions.specs.Unions.{Unions, groupsFor}
 use Rattle.verdict.specs.Words.{HeldRows}
 use Rattle.unions.proofs.UnionTables.{named-chosen}
@@ -22,7 +22,7 @@ use Rattle.verdict.proofs.join_pairs.Tie as tie
 abbrev Joined : List ℕ → ℕ → ℕ → List ℕ → ℕ → ℕ → ℕ → Type 0
 Joined rows k a table n p w =
     (A : Automaton) (values : List ℕ) → HeldRows A n k rows → Unions table 0 values 0 (groupsFor n)
-    → (x : ℕ) → bit w x ≡ some (λ t. transition A p a t && holdsRow values t x) n 0
+    → (x : ℕ) → bit w x ≡ some (λ t. transition A p a t && rowHas values t x) n 0
 
 abbrev Inv-loop : tie.InvT-loop
 Inv-loop rows letters letter table n pairs₀ p₀ pairs p =

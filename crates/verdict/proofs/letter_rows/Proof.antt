@@ -11,7 +11,7 @@ use lib.Dec.{eqb, ltb}
 use lib.ListN.{length, length-set}
 use Rattle.automaton.specs.Sets.{bit}
 use Rattle.automaton.specs.Members.{transitionIn}
-use Rattle.relations.specs.Closure.{holdsRow}
+use Rattle.relations.specs.Closure.{rowHas}
 use Rattle.relations.proofs.Rows.{Rewritten, rewriting-begins, rewriting-goes-on}
 use Rattle.verdict.proofs.letter_rows.Statement.{statement}
 use Rattle.verdict.proofs.letter_rows.Tie as tie
@@ -81,7 +81,7 @@ returns c = (rows-at, λ i h. c .before .loop .inv .2 .rest i (omega arith))
     t = c .before .before .before .args .transitions .now
 
     rows-at : (a p q : ℕ) → a < c .before .before .before .args .letters → p < 32
-        → holdsRow (c .before .loop .rows) (a * 32 + p) q ≡ (ltb q 32 && transitionIn t p a q)
+        → rowHas (c .before .loop .rows) (a * 32 + p) q ≡ (ltb q 32 && transitionIn t p a q)
     rows-at a p q ha hp =
         let state : (a * 32 + p) % 32 ≡ p = omega arith in
         let letter : (a * 32 + p) / 32 ≡ a = omega arith in

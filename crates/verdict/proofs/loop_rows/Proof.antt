@@ -1,10 +1,10 @@
--- `verdict::loop_rows` meets its contract: the pairs of the empty word are turned into those of the loop word, whose halves are the rows.
+-- `verdict::loop_rows` meets its contract: the pairs of the empty word are word into those of the loop word, whose halves are the rows.
 -- Assumes nothing.
 use mathlib.Core.Path.{_∙_}
 use native.Mathlib.Omega.{arith}
 use Rattle.automaton.specs.declared.Automaton.{Automaton}
-use Rattle.verdict.specs.Words.{HeldRows, HeldAccepting, Turned}
-use Rattle.verdict.proofs.WordSets.{turned-begins}
+use Rattle.verdict.specs.Words.{HeldRows, HeldAccepting, PairsOf}
+use Rattle.verdict.proofs.WordSets.{pairs-begin}
 use borrow.Author.Needs.{needs}
 use Rattle.verdict.proofs.loop_rows.Statement.{statement}
 use Rattle.verdict.proofs.loop_rows.Tie as tie
@@ -15,11 +15,11 @@ slice-aggregate-diagonal c = search needs
 diagonal-requires : tie.Need-diagonal-requires
 diagonal-requires c κs = search needs
 
-slice-aggregate-turn-word : tie.Need-slice-aggregate-turn-word
-slice-aggregate-turn-word c = search needs
+slice-aggregate-word-pairs : tie.Need-slice-aggregate-word-pairs
+slice-aggregate-word-pairs c = search needs
 
-turn-word-requires : tie.Need-turn-word-requires
-turn-word-requires c κs = search needs
+word-pairs-requires : tie.Need-word-pairs-requires
+word-pairs-requires c κs = search needs
 
 slice-aggregate-halves : tie.Need-slice-aggregate-halves
 slice-aggregate-halves c = search needs
@@ -36,13 +36,13 @@ same-length-2 c = search needs
 returns : tie.Need-returns
 returns c =
     let split = c .before .before .before .before in
-    let turned = split .before .before .before .before .before in
-    let first = turned .before .before .before in
+    let word = split .before .before .before .before .before in
+    let first = word .before .before .before in
     let a = first .before .before .before .before .before .before .args in
     let pairs : (A : Automaton) → HeldRows A (a .n) (a .letters) (a .rows .now) → HeldAccepting A (a .accepting)
-    → Turned A (a .n) (a .turn .now) (turned .turn-word .last .1 .1 .1 .1 .1 .0) =
-    λ A h held. turned .turn-word .ensures A h held
-    (turned-begins A (a .n) (a .letters) (a .rows .now) h (first .diagonal .last .0) (first .diagonal .ensures .0)) in (
+    → PairsOf A (a .n) (a .cycle .now) (word .word-pairs .last .1 .1 .1 .1 .1 .0) =
+    λ A h held. word .word-pairs .ensures A h held
+    (pairs-begin A (a .n) (a .letters) (a .rows .now) h (first .diagonal .last .0) (first .diagonal .ensures .0)) in (
       λ A h held p q hp hq. split .halves .ensures .0 p q hp (omega arith) ∙ pairs A h held .runs p q hp hq,
       λ A h held p q hp hq. split .halves .ensures .1 .0 p q hp (omega arith) ∙ pairs A h held .visits p q hp hq,
     )
@@ -53,8 +53,8 @@ loop-rows-spec =
     (tie.spec
     slice-aggregate-diagonal
     diagonal-requires
-    slice-aggregate-turn-word
-    turn-word-requires
+    slice-aggregate-word-pairs
+    word-pairs-requires
     slice-aggregate-halves
     halves-requires
     same-length

@@ -6,15 +6,15 @@ use Prim.Native.Nat.{ℕ, _+_, _-_, _≤_, _<_}
 use native.Mathlib.Omega.{arith}
 use lib.ListN.{length, length-set}
 use Rattle.automaton.specs.Sets.{bit}
-use Rattle.relations.specs.Closure.{holdsRow}
+use Rattle.relations.specs.Closure.{rowHas}
 use Rattle.relations.proofs.Rows.{Rewritten, rewriting-begins, rewriting-goes-on}
 use Rattle.verdict.proofs.met_pairs.Statement.{statement}
 use Rattle.verdict.proofs.met_pairs.Tie as tie
 
 -- what the pair of t is to be
 record MetAt (pairs : List ℕ) (accepting t w : ℕ) : Type 0 where
-  runs : (q : ℕ) → q < 32 → bit w q ≡ holdsRow pairs t q
-  visits : (q : ℕ) → q < 32 → bit w (32 + q) ≡ (holdsRow pairs t (32 + q) || (bit accepting t && holdsRow pairs t q))
+  runs : (q : ℕ) → q < 32 → bit w q ≡ rowHas pairs t q
+  visits : (q : ℕ) → q < 32 → bit w (32 + q) ≡ (rowHas pairs t (32 + q) || (bit accepting t && rowHas pairs t q))
 
 abbrev Inv-loop : tie.InvT-loop
 Inv-loop pairs n accepting after₀ t₀ after t =

@@ -6,7 +6,7 @@ use borrow.Author.Count.{below-none}
 use borrow.Author.Needs.{needs}
 use lib.ListN.{length, getD, length-set}
 use Rattle.automaton.specs.Sets.{member}
-use Rattle.walk.specs.Shown.{counterFrom}
+use Rattle.walk.specs.Representation.{counterFrom}
 use Rattle.walk.proofs.SteppedBytes.{table-is, table-more}
 use Rattle.walk.proofs.counters_after.Statement.{statement}
 use Rattle.walk.proofs.counters_after.Tie as tie

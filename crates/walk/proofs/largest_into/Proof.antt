@@ -10,7 +10,7 @@ use lib.ListN.{length, getD, getD-replicate}
 use Rattle.automaton.specs.Members.{transitionIn}
 use Rattle.automaton.specs.Ranges.{largest as largestAmong}
 use Rattle.automaton.proofs.Ranges.{length-table}
-use Rattle.walk.specs.Shown.{Masks, largestInto}
+use Rattle.walk.specs.Representation.{Masks, largestInto}
 use Rattle.walk.proofs.SteppedBytes.{table-is, largestOf, largest-raised, largest-listed}
 use Rattle.walk.proofs.largest_into.Statement.{statement}
 use Rattle.walk.proofs.largest_into.Tie as tie

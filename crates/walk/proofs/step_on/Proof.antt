@@ -2,7 +2,7 @@
 -- Assumes nothing.
 use mathlib.Core.Path.{refl}
 use borrow.Author.Needs.{needs}
-use Rattle.walk.proofs.Onward.{step-is}
+use Rattle.walk.proofs.FoldLoops.{step-is}
 use Rattle.walk.proofs.step_on.Statement.{statement}
 use Rattle.walk.proofs.step_on.Tie as tie
 

@@ -1,4 +1,4 @@
--- `walk::walk` meets its contract: the initial vertex is visited with an empty index, and the turns follow. Assumes nothing.
+-- `walk::walk` meets its contract: the initial vertex is discovered with an empty index, and then every place is expanded. Assumes nothing.
 use mathlib.Core.Path.{refl, sym, subst}
 use Prim.Native.Nat.{_<_}
 use native.Mathlib.Omega.{arith}
@@ -7,10 +7,10 @@ use Rattle.automaton.specs.Automata.{maxStates}
 use Rattle.slots.specs.declared.Vertex.{Vertex}
 use Rattle.slots.proofs.Chains.{index-none}
 use Rattle.graph.specs.LagGraph.{initialVertex}
-use Rattle.walk.specs.Shown.{RulesOf}
-use Rattle.walk.proofs.ShownSlots.{ready-none}
-use Rattle.walk.proofs.Onward.{other-stops}
-use Rattle.walk.proofs.TurnLoops.{walk-stop, walk-on}
+use Rattle.walk.specs.Representation.{RulesOf}
+use Rattle.walk.proofs.RepresentedSlots.{ready-none}
+use Rattle.walk.proofs.FoldLoops.{other-stops}
+use Rattle.walk.proofs.ExpandLoops.{walk-stop, walk-on}
 use Rattle.walk.proofs.walk.Statement.{statement}
 use Rattle.walk.proofs.walk.Tie as tie
 
@@ -23,15 +23,15 @@ initial-vertex-requires c κs = search needs
 counters-hash-requires : tie.Need-counters-hash-requires
 counters-hash-requires c κs = search needs
 
-slice-aggregate-visit : tie.Need-slice-aggregate-visit
-slice-aggregate-visit c = search needs
+slice-aggregate-discover : tie.Need-slice-aggregate-discover
+slice-aggregate-discover c = search needs
 
-slice-aggregate-visit-2 : tie.Need-slice-aggregate-visit-2
-slice-aggregate-visit-2 c = search needs
+slice-aggregate-discover-2 : tie.Need-slice-aggregate-discover-2
+slice-aggregate-discover-2 c = search needs
 
-visit-requires : tie.Need-visit-requires
+discover-requires : tie.Need-discover-requires
 unfolding initialVertex
-visit-requires c κs =
+discover-requires c κs =
     let s = c .before .before .before .before .before .before .before .before .before in (
       ready-none (s .args .work .now) _ _ (index-none (s .args .work .now)),
       subst (λ (v : Vertex). v .left < maxStates) (sym (c .before .before .before .before .before .before .initial-vertex .ensures))
@@ -49,7 +49,7 @@ same-length c = search needs
 returns : tie.Need-returns
 returns c =
     let w = c .before .before .before .before .before in
-    let v = w .visit in
+    let v = w .discover in
     let i = w .before .before .before .before .before .before .before .initial-vertex in
     let a = w .before .before .before .before .before .before .before .before .before .before .args in
     let d =
@@ -66,19 +66,19 @@ fill-requires c κs = let p = c .before .before .before .before .before .before 
 least-members-requires : tie.Need-least-members-requires
 least-members-requires c κs = search needs
 
-slice-aggregate-turns : tie.Need-slice-aggregate-turns
-slice-aggregate-turns c = search needs
+slice-aggregate-expand-all : tie.Need-slice-aggregate-expand-all
+slice-aggregate-expand-all c = search needs
 
-slice-aggregate-turns-2 : tie.Need-slice-aggregate-turns-2
-slice-aggregate-turns-2 c = search needs
+slice-aggregate-expand-all-2 : tie.Need-slice-aggregate-expand-all-2
+slice-aggregate-expand-all-2 c = search needs
 
-turns-requires : tie.Need-turns-requires
-turns-requires c κs =
+expand-all-requires : tie.Need-expand-all-requires
+expand-all-requires c κs =
     let w = c .before .before .before .before .before .before .before .before .before .before .before .before .before .before .before .before .before .before .before .before in
     let g = c .before .before .before .before .before .before .before .before .before .before .before .before .before .before .seen .given .1 in
     let e = w .before .before .before .before .before .before .before .before .rules-of .ensures in
     let s = w .before .before .before .before .before .before .before .before .before .before in (
-      rw g at (w .visit .ensures .1),
+      rw g at (w .discover .ensures .1),
       omega (arith, e .0, s .pre .0 .few-letters),
       omega (arith, e .1, s .pre .1 .few-states),
       c .before .before .before .before .before .before .before .least-members .ensures,
@@ -90,13 +90,13 @@ same-length-2 c = search needs
 returns-2 : tie.Need-returns-2
 returns-2 c =
     let w = c .before .before .before .before .before .before .before .before .before .before .before .before .before .before .before .before .before .before .before .before .before .before .before .before .before in
-    let v = w .visit in
+    let v = w .discover in
     let i = w .before .before .before .before .before .before .before .initial-vertex in
     let rules = w .before .before .before .before .before .before .before .before .rules-of in
     let e = rules .ensures in
     let s = w .before .before .before .before .before .before .before .before .before .before in
     let a = s .args in
-    let t = c .before .before .before .before .turns in
+    let t = c .before .before .before .before .expand-all in
     let f = c .before .before .before .before .before .before .before .before .before .before .before .before .before .before .fill in
     let R : RulesOf (rules .result) (a .t1 .transitions) (f .last .0) (a .t1) (a .t2) (a .bound) =
     record {
@@ -118,17 +118,17 @@ walk-spec =
     rules-of-requires
     initial-vertex-requires
     counters-hash-requires
-    slice-aggregate-visit
-    slice-aggregate-visit-2
-    visit-requires
+    slice-aggregate-discover
+    slice-aggregate-discover-2
+    discover-requires
     enum-known-seen
     same-length
     returns
     slice-aggregate-fill
     fill-requires
     least-members-requires
-    slice-aggregate-turns
-    slice-aggregate-turns-2
-    turns-requires
+    slice-aggregate-expand-all
+    slice-aggregate-expand-all-2
+    expand-all-requires
     same-length-2
     returns-2)

@@ -1,4 +1,4 @@
--- `boundary::bytes::put_transitions` meets its contract. After i turns the first i bytes of the transitions stand in front. Assumes nothing.
+-- `boundary::bytes::put_transitions` meets its contract. After i rounds the first i bytes of the transitions stand in front. Assumes nothing.
 use mathlib.Core.Path.{_≡_, refl, _∙_}
 use Prim.Native.Nat.{_-_, _≤_}
 use native.Mathlib.Omega.{arith}

@@ -1,4 +1,4 @@
--- `boundary::bytes::transitions_of` meets its contract. After i turns the first i of the bytes from 13 on stand in front. Assumes nothing.
+-- `boundary::bytes::transitions_of` meets its contract. After i rounds the first i of the bytes from 13 on stand in front. Assumes nothing.
 use mathlib.Core.Path.{_≡_, sym, _∙_}
 use Prim.Native.Nat.{_-_, _≤_}
 use native.Mathlib.Omega.{arith}

@@ -49,9 +49,9 @@ returns c =
     let first = percent .before .before .before in
     let states = first .before .before .before .before .before in
     let edition = states .before .before .before .before .before in
-    let shown = edition .before .before .before .before .args .shown in (
+    let summary = edition .before .before .before .before .args .summary in (
       fields-written
-          shown
+          summary
           (percent .percent-saved .result)
           (percent .percent-saved .ensures)
           (edition .put-field .ensures .0)

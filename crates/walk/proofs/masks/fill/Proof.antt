@@ -1,10 +1,10 @@
--- `walk::masks::fill` meets its contract: after a turns the masks of the letters below a are written. Assumes nothing.
+-- `walk::masks::fill` meets its contract: after a rounds the masks of the letters below a are written. Assumes nothing.
 use mathlib.Core.Path.{_≡_, refl, _∙_}
 use Prim.Native.Nat.{_-_, _≤_}
 use native.Mathlib.Omega.{arith}
 use borrow.Author.Needs.{needs}
 use lib.ListN.{length}
-use Rattle.walk.specs.Shown.{Masks}
+use Rattle.walk.specs.Representation.{Masks}
 use Rattle.walk.proofs.MaskRows.{letters-next}
 use Rattle.walk.proofs.masks.fill.Statement.{statement}
 use Rattle.walk.proofs.masks.fill.Tie as tie

@@ -1,4 +1,4 @@
--- `walk::masks::fill_letter` meets its contract: after p turns the masks of the states below p are written. Assumes nothing.
+-- `walk::masks::fill_letter` meets its contract: after p rounds the masks of the states below p are written. Assumes nothing.
 use Prim.Native.Nat.{_-_, _≤_}
 use native.Mathlib.Omega.{arith}
 use borrow.Author.Needs.{needs}

@@ -1,4 +1,4 @@
--- `walk::masks::fill_row` meets its contract: after r turns the masks of the targets below r are written. Assumes nothing.
+-- `walk::masks::fill_row` meets its contract: after r rounds the masks of the targets below r are written. Assumes nothing.
 use mathlib.Core.Path.{_≡_, refl}
 use Prim.Native.Nat.{_+_, _*_, _-_, _≤_}
 use native.Mathlib.Omega.{arith}

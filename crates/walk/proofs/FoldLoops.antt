@@ -1,4 +1,4 @@
--- The code's loops follow the definition's folds: before each turn of a loop the rest of the fold, from the list that the work
+-- The code's loops follow the definition's folds: before each round of a loop the rest of the fold, from the list that the work
 -- buffer shows, gives the walk of the whole, and an answer that stops the loop is that walk's already. Assumes nothing.
 use mathlib.Core.Path.{_≡_, refl, sym, _∙_, ap, ap₂, subst}
 use mathlib.Core.Bool.{Bool, true, false, cond}
@@ -24,11 +24,11 @@ use Rattle.slots.specs.Bytes.{countersHash}
 use Rattle.walk.specs.declared.Step.{Step}
 use Rattle.walk.specs.declared.Walked.{Walked}
 use Rattle.walk.specs.declared.Walked.the-variants.{Going, Ended, Full}
-use Rattle.graph.specs.Discovery.{Node, Walk, going, ended, full, below, visit, visits}
+use Rattle.graph.specs.Discovery.{Node, Walk, going, ended, full, below, discover, discoverAll}
 use Rattle.graph.specs.LagGraph.{successor, lagGraph}
-use Rattle.walk.specs.Shown.{Shown, Becomes, Ready, Side, RightSide, StepOf, largestInto, counterFrom, Masks, NoneFrom, Needed}
+use Rattle.walk.specs.Representation.{Represents, Becomes, Ready, Side, RightSide, StepOf, largestInto, counterFrom, Masks, NoneFrom, Needed}
 use Rattle.walk.proofs.Walked.{the-type}
-use Rattle.graph.proofs.Visits.{visits-ended, visits-full, visits-append}
+use Rattle.graph.proofs.Discoveries.{discover-all-ended, discover-all-full, discover-all-append}
 use Rattle.walk.proofs.SteppedBytes.{transition-in-range, accepts-in-range, stepped-is}
 
 -- an answer that ends the loops
@@ -44,61 +44,61 @@ other-stops (Going n) (inr e) = absurd (omega arith)
 other-stops (Ended i a p) e = tt
 other-stops (Full n) e = tt
 
-pub shown-going : (work : List ℕ) (r : Walked) (x : ℕ) (start : List ℕ) (w : Walk Vertex) → r ≡ Going x → Shown work r start w
-    → (ms : List (Node Vertex)) × (w ≡ going ms) × Shown work (Going x) start (going ms)
-shown-going work r x start (going ms) e S = (ms, refl, subst (λ (q : Walked). Shown work q start (going ms)) e S)
-shown-going work r x start (ended ms n) e S =
+pub represented-going : (work : List ℕ) (r : Walked) (x : ℕ) (start : List ℕ) (w : Walk Vertex) → r ≡ Going x → Represents work r start w
+    → (ms : List (Node Vertex)) × (w ≡ going ms) × Represents work (Going x) start (going ms)
+represented-going work r x start (going ms) e S = (ms, refl, subst (λ (q : Walked). Represents work q start (going ms)) e S)
+represented-going work r x start (ended ms n) e S =
     let q = S .answer in
     let z : _≡_ {A = ℕ} 0 1 = cc in
     absurd (omega arith)
-shown-going work r x start (full ms) e S =
+represented-going work r x start (full ms) e S =
     let q = S .answer in
     let z : _≡_ {A = ℕ} 0 1 = cc in
     absurd (omega arith)
 
 module _ (A B : Automaton) (b p : ℕ) where
   -- a walk that an answer shows to have stopped stays as it is
-  stopped-visits : (work : List ℕ) (r : Walked) (start : List ℕ) (w : Walk Vertex) (es : List (ℕ × Vertex)) → Stops r → Shown work r start w
-      → visits (lagGraph A B b) (below (slotCount (length start))) p w es ≡ w
-  stopped-visits work r start (going ns) es t S = absurd (subst Stops (S .answer) t)
-  stopped-visits work r start (ended ns n) es t S = visits-ended (lagGraph A B b) (below (slotCount (length start))) p ns n es
-  stopped-visits work r start (full ns) es t S = visits-full (lagGraph A B b) (below (slotCount (length start))) p ns es
+  stopped-discover-all : (work : List ℕ) (r : Walked) (start : List ℕ) (w : Walk Vertex) (es : List (ℕ × Vertex)) → Stops r → Represents work r start w
+      → discoverAll (lagGraph A B b) (below (slotCount (length start))) p w es ≡ w
+  stopped-discover-all work r start (going ns) es t S = absurd (subst Stops (S .answer) t)
+  stopped-discover-all work r start (ended ns n) es t S = discover-all-ended (lagGraph A B b) (below (slotCount (length start))) p ns n es
+  stopped-discover-all work r start (full ns) es t S = discover-all-full (lagGraph A B b) (below (slotCount (length start))) p ns es
 
-  -- the visits of es, from the list that work shows, make W
-  abbrev pub Onward : List ℕ → ℕ → List ℕ → List (ℕ × Vertex) → Walk Vertex → Type 0
-  Onward work m start es W =
-      (ms : List (Node Vertex)) × Shown work (Going m) start (going ms)
-      × (visits (lagGraph A B b) (below (slotCount (length start))) p (going ms) es ≡ W)
+  -- es, discovered from the list that work represents, make W
+  abbrev pub FoldLoops : List ℕ → ℕ → List ℕ → List (ℕ × Vertex) → Walk Vertex → Type 0
+  FoldLoops work m start es W =
+      (ms : List (Node Vertex)) × Represents work (Going m) start (going ms)
+      × (discoverAll (lagGraph A B b) (below (slotCount (length start))) p (going ms) es ≡ W)
 
-  -- the code has made the visits of fs, the first of them
+  -- the code has discovered fs, the first of them
   module _ (work : List ℕ) (m : ℕ) (work′ : List ℕ) (r : Walked) (start : List ℕ) (fs es gs : List (ℕ × Vertex)) (W : Walk Vertex)
-      (O : Onward work m start gs W) (first : gs ≡ fs ++ es)
-      (made : Becomes work m work′ r (λ S w. visits (lagGraph A B b) (below S) p w fs)) where
-    after : Shown work′ r start (visits (lagGraph A B b) (below (slotCount (length start))) p (going (O .0)) fs)
+      (O : FoldLoops work m start gs W) (first : gs ≡ fs ++ es)
+      (made : Becomes work m work′ r (λ S w. discoverAll (lagGraph A B b) (below S) p w fs)) where
+    after : Represents work′ r start (discoverAll (lagGraph A B b) (below (slotCount (length start))) p (going (O .0)) fs)
     after = made start (O .0) (O .1)
 
-    whole : visits (lagGraph A B b) (below (slotCount (length start))) p
-        (visits (lagGraph A B b) (below (slotCount (length start))) p (going (O .0)) fs) es ≡ W
+    whole : discoverAll (lagGraph A B b) (below (slotCount (length start))) p
+        (discoverAll (lagGraph A B b) (below (slotCount (length start))) p (going (O .0)) fs) es ≡ W
     whole =
-        sym (visits-append (lagGraph A B b) (below (slotCount (length start))) p (going (O .0)) fs es)
-        ∙ ap (visits (lagGraph A B b) (below (slotCount (length start))) p (going (O .0))) (sym first)
+        sym (discover-all-append (lagGraph A B b) (below (slotCount (length start))) p (going (O .0)) fs es)
+        ∙ ap (discoverAll (lagGraph A B b) (below (slotCount (length start))) p (going (O .0))) (sym first)
         ∙ O .2
 
-    pub onward-next : (x : ℕ) → r ≡ Going x → Onward work′ x start es W
+    pub onward-next : (x : ℕ) → r ≡ Going x → FoldLoops work′ x start es W
     onward-next x e =
-        let g = shown-going work′ r x start (visits (lagGraph A B b) (below (slotCount (length start))) p (going (O .0)) fs) e after in
-        (g .0, g .2, ap (λ (w : Walk Vertex). visits (lagGraph A B b) (below (slotCount (length start))) p w es) (sym (g .1)) ∙ whole)
+        let g = represented-going work′ r x start (discoverAll (lagGraph A B b) (below (slotCount (length start))) p (going (O .0)) fs) e after in
+        (g .0, g .2, ap (λ (w : Walk Vertex). discoverAll (lagGraph A B b) (below (slotCount (length start))) p w es) (sym (g .1)) ∙ whole)
 
-    pub onward-stop : Stops r → Shown work′ r start W
+    pub onward-stop : Stops r → Represents work′ r start W
     onward-stop t =
-        let w = visits (lagGraph A B b) (below (slotCount (length start))) p (going (O .0)) fs in
-        subst (λ (x : Walk Vertex). Shown work′ r start x) (sym (stopped-visits work′ r start w es t after) ∙ whole) after
+        let w = discoverAll (lagGraph A B b) (below (slotCount (length start))) p (going (O .0)) fs in
+        subst (λ (x : Walk Vertex). Represents work′ r start x) (sym (stopped-discover-all work′ r start w es t after) ∙ whole) after
 
-  pub onward-end : (work : List ℕ) (m : ℕ) (start : List ℕ) (es : List (ℕ × Vertex)) (W : Walk Vertex) → Onward work m start es W
-      → es ≡ [] → Shown work (Going m) start W
+  pub onward-end : (work : List ℕ) (m : ℕ) (start : List ℕ) (es : List (ℕ × Vertex)) (W : Walk Vertex) → FoldLoops work m start es W
+      → es ≡ [] → Represents work (Going m) start W
   onward-end work m start es W O e =
-      subst (λ (w : Walk Vertex). Shown work (Going m) start w)
-      (ap (visits (lagGraph A B b) (below (slotCount (length start))) p (going (O .0))) (sym e) ∙ O .2) (O .1)
+      subst (λ (w : Walk Vertex). Represents work (Going m) start w)
+      (ap (discoverAll (lagGraph A B b) (below (slotCount (length start))) p (going (O .0))) (sym e) ∙ O .2) (O .1)
 
 -- The left targets, the next target first.
 
@@ -230,15 +230,15 @@ pub record Kept (work₀ heads₀ nexts₀ work heads nexts : List ℕ) (m : ℕ
   pub nexts-long : length nexts ≡ length nexts₀
   pub ready : Ready work heads nexts m
 
--- Before the visit of target t: the visits of the targets from t on, from the list that work shows, make the walk that all targets
+-- Before target t is discovered: the targets from t on, from the list that work represents, make the walk that all targets
 -- make of the list that `before` shows.
-abbrev pub TargetsLeft : List ℕ → List ℕ → Step → ℕ → List ℕ → ℕ → List ℕ → ℕ → ℕ → Type 0
-TargetsLeft accepting transitions step p before n work m t =
+abbrev pub TargetsToGo : List ℕ → List ℕ → Step → ℕ → List ℕ → ℕ → List ℕ → ℕ → ℕ → Type 0
+TargetsToGo accepting transitions step p before n work m t =
     (A B : Automaton) (b : ℕ) (v : Vertex) → Side accepting transitions A → StepOf step A B b v
-    → (start : List ℕ) (ns : List (Node Vertex)) → Shown before (Going n) start (going ns)
-    → Onward A B b p work m start
+    → (start : List ℕ) (ns : List (Node Vertex)) → Represents before (Going n) start (going ns)
+    → FoldLoops A B b p work m start
     (map (successor A B b v (step .letter)) (those (transitionIn transitions (step .left) (step .letter)) (A .states - t) t))
-    (visits (lagGraph A B b) (below (slotCount (length start))) p (going ns)
+    (discoverAll (lagGraph A B b) (below (slotCount (length start))) p (going ns)
     (map (successor A B b v (step .letter)) (targets A (v .left) (step .letter))))
 
 -- the answer r and the work buffer are those of all targets
@@ -246,20 +246,20 @@ abbrev pub TargetsDone : List ℕ → List ℕ → Step → ℕ → List ℕ →
 TargetsDone accepting transitions step p before n work r =
     (A B : Automaton) (b : ℕ) (v : Vertex) → Side accepting transitions A → StepOf step A B b v
     → Becomes before n work r
-    (λ S w. visits (lagGraph A B b) (below S) p w (map (successor A B b v (step .letter)) (targets A (v .left) (step .letter))))
+    (λ S w. discoverAll (lagGraph A B b) (below S) p w (map (successor A B b v (step .letter)) (targets A (v .left) (step .letter))))
 
 module _ (accepting transitions : List ℕ) (step : Step) (small : step .left < maxStates) (letter : step .letter < maxLetters)
     (p : ℕ) (before : List ℕ) (n : ℕ) where
   pub targets-start : (t : ℕ) → t ≡ nextFrom (transitionIn transitions (step .left) (step .letter)) maxStates 0
-      → TargetsLeft accepting transitions step p before n before n t
+      → TargetsToGo accepting transitions step p before n before n t
   targets-start t e A B b v L K start ns S = (
     ns,
     S,
-    ap (visits (lagGraph A B b) (below (slotCount (length start))) p (going ns))
+    ap (discoverAll (lagGraph A B b) (below (slotCount (length start))) p (going ns))
         (edges-first A B b v accepting transitions step L K small letter t e),
   )
 
-  module _ (work : List ℕ) (m t : ℕ) (O : TargetsLeft accepting transitions step p before n work m t) where
+  module _ (work : List ℕ) (m t : ℕ) (O : TargetsToGo accepting transitions step p before n work m t) where
     pub targets-end : maxStates ≤ t → TargetsDone accepting transitions step p before n work (Going m)
     targets-end h A B b v L K start ns S =
         onward-end A B b p work m start (edgesFrom A B b v accepting transitions step L K small letter t) _ (O A B b v L K start ns S)
@@ -267,12 +267,12 @@ module _ (accepting transitions : List ℕ) (step : Step) (small : step .left < 
 
     module _ (h : t < maxStates) (e : transitionIn transitions (step .left) (step .letter) t ≡ true) (u : Vertex) (ul : u .left ≡ t)
         (uc : u .counters ≡ cond (member accepting t) (step .lowered) (step .others)) (work′ : List ℕ) (r : Walked)
-        (seen : (A B : Automaton) (b : ℕ) → Becomes work m work′ r (λ S w. visit (lagGraph A B b) (below S) p w (step .letter, u)))
+        (seen : (A B : Automaton) (b : ℕ) → Becomes work m work′ r (λ S w. discover (lagGraph A B b) (below S) p w (step .letter, u)))
       where
         made : (A B : Automaton) (b : ℕ) (v : Vertex) → Side accepting transitions A → StepOf step A B b v
-            → Becomes work m work′ r (λ S w. visits (lagGraph A B b) (below S) p w (successor A B b v (step .letter) t ∷ []))
+            → Becomes work m work′ r (λ S w. discoverAll (lagGraph A B b) (below S) p w (successor A B b v (step .letter) t ∷ []))
         made A B b v L K =
-            subst (λ (d : ℕ × Vertex). Becomes work m work′ r (λ S w. visit (lagGraph A B b) (below S) p w d))
+            subst (λ (d : ℕ × Vertex). Becomes work m work′ r (λ S w. discover (lagGraph A B b) (below S) p w d))
             (target-successor A B b v accepting transitions step L K small letter u t h e ul uc) (seen A B b)
 
         pub targets-stop : Stops r → TargetsDone accepting transitions step p before n work′ r
@@ -285,7 +285,7 @@ module _ (accepting transitions : List ℕ) (step : Step) (small : step .left < 
 
         pub targets-next : (x s : ℕ) → r ≡ Going x
             → s ≡ nextFrom (transitionIn transitions (step .left) (step .letter)) (maxStates - (t + 1)) (t + 1)
-            → TargetsLeft accepting transitions step p before n work′ x s
+            → TargetsToGo accepting transitions step p before n work′ x s
         targets-next x s q d A B b v L K start ns S =
             onward-next A B b p work m work′ r start (successor A B b v (step .letter) t ∷ [])
             (edgesFrom A B b v accepting transitions step L K small letter s)

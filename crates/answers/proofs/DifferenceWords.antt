@@ -14,7 +14,7 @@ use Rattle.slots.specs.declared.Vertex.{Vertex}
 use Rattle.graph.specs.Discovery.{Node, ended}
 use Rattle.graph.specs.Walks.{wordOf, wordAfter, Fits}
 use Rattle.graph.proofs.WalkTheorem.{list-differs}
-use Rattle.answers.specs.Demand2.{Shown}
+use Rattle.answers.specs.Demand2.{Difference}
 
 front-word : (c : Bool) (w word : List ℕ) → c ≡ true → take (length w) (cond c (w ++ drop (length w) word) word) ≡ w
 front-word true w word e = take-append-seam w (drop (length w) word)
@@ -22,7 +22,7 @@ front-word false w word e = clash e refl
 
 pub written-shown : {A B : Automaton} {b S i len : ℕ} {ns : List (Node Vertex)} {n : Node Vertex} (word : List ℕ)
     → InRange B → Fits A B b S (ended ns n) → i ≡ length ns → len ≡ length (wordOf A B b ns n)
-    → leb (length (wordOf A B b ns n)) (length word) ≡ true → Shown A B b S i len (wordAfter word (wordOf A B b ns n))
+    → leb (length (wordOf A B b ns n)) (length word) ≡ true → Difference A B b S i len (wordAfter word (wordOf A B b ns n))
 written-shown {A} {B} {b} {S} {i} {len} {ns} {n} word r fits place size room =
     let front : take len (wordAfter word (wordOf A B b ns n)) ≡ wordOf A B b ns n =
     subst (λ (k : ℕ). take k (wordAfter word (wordOf A B b ns n)) ≡ wordOf A B b ns n) (sym size)

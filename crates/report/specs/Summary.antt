@@ -1,11 +1,11 @@
 -- What the line shows of an entry.
---   Shows E s   s has the edition number, the held states and the first states of the entry E
+--   SummaryOf E s   s has the edition number, the held states and the first states of the entry E
 -- Assumes nothing.
 use mathlib.Core.Path.{_≡_}
 use Rattle.history.specs.declared.Entry.{Entry}
-use Rattle.report.specs.declared.answer_lines.Shown.{Shown}
+use Rattle.report.specs.declared.answer_lines.Summary.{Summary}
 
-pub record Shows (E : Entry) (s : Shown) : Type 0 where
+pub record SummaryOf (E : Entry) (s : Summary) : Type 0 where
   pub edition : E .edition ≡ s .edition
   pub states : E .held .states ≡ s .states
   pub first : E .first ≡ s .first

@@ -1,12 +1,12 @@
--- `walk::visit_letter` meets its contract: without a left target there is no successor, and else the step's targets are visited.
+-- `walk::expand_letter` meets its contract: without a left target there is no successor, and else the step's targets are discovered.
 -- Assumes nothing.
 use mathlib.Core.Path.{sym, _∙_}
 use native.Mathlib.Omega.{arith}
 use borrow.Author.Needs.{needs}
 use Rattle.walk.proofs.LeftTargets.{flags-needed}
-use Rattle.walk.proofs.TurnLoops.{letter-done, letter-none}
-use Rattle.walk.proofs.visit_letter.Statement.{statement}
-use Rattle.walk.proofs.visit_letter.Tie as tie
+use Rattle.walk.proofs.ExpandLoops.{letter-done, letter-none}
+use Rattle.walk.proofs.expand_letter.Statement.{statement}
+use Rattle.walk.proofs.expand_letter.Tie as tie
 
 cast-next-target : tie.Need-cast-next-target
 cast-next-target c = search needs
@@ -41,8 +41,8 @@ reach-beyond-requires c κs = search needs
 step-on-requires : tie.Need-step-on-requires
 step-on-requires c κs = search needs
 
-visit-targets-requires : tie.Need-visit-targets-requires
-visit-targets-requires c κs =
+discover-targets-requires : tie.Need-discover-targets-requires
+discover-targets-requires c κs =
     let s = c .before .before .before .before .before .before .before .before .before .before .before .before .before .before .before .before .before .before .before .before in
     let k = c .before .before .before .before .step-on .ensures in (
       s .pre .0,
@@ -69,7 +69,7 @@ returns-2 c =
     let a = s .args in
     let h = c .before .before .before .before .before .before .before .before .before .before .before in
     let k = h .step-on in
-    let v = c .before .before .before .before .before .before .visit-targets in (
+    let v = c .before .before .before .before .before .before .discover-targets in (
       letter-done (a .rules) (a .lefts .now) (a .masks .now) (a .v) (a .letter) (a .p) (a .work .now) (a .n)
           (k .result) (k .ensures .0 .1) (s .pre .3) _ _
           (flags-needed (a .lefts .now) (a .rules .left) (a .v .left) (a .letter) _ _ _ _
@@ -78,8 +78,8 @@ returns-2 c =
       v .ensures .1,
     )
 
-pub visit-letter-spec : {M : Type 1} → statement M
-visit-letter-spec =
+pub expand-letter-spec : {M : Type 1} → statement M
+expand-letter-spec =
     tie.close
     (tie.spec
     cast-next-target
@@ -91,7 +91,7 @@ visit-letter-spec =
     meets-requires
     reach-beyond-requires
     step-on-requires
-    visit-targets-requires
+    discover-targets-requires
     same-length
     same-length-2
     same-length-3

@@ -1,22 +1,22 @@
--- `walk::turn` meets its contract. Before each letter the visits on the letters that are left, from the list that the work buffer
--- shows, make the whole turn. Assumes nothing.
+-- `walk::expand` meets its contract. Before each letter the successors on the letters still to come, from the list that the work buffer
+-- represents, make all of them. Assumes nothing.
 use mathlib.Core.Path.{_≡_, refl, sym, _∙_, subst}
 use Prim.Native.Nat.{_-_, _≤_, _<_}
 use native.Mathlib.Omega.{arith}
 use borrow.Author.Needs.{needs}
 use Rattle.automaton.specs.Automata.{maxStates}
 use Rattle.slots.specs.declared.Vertex.{Vertex}
-use Rattle.walk.specs.Shown.{PresentOf}
-use Rattle.walk.proofs.Onward.{Kept, other-stops}
-use Rattle.walk.proofs.TurnLoops.{LettersLeft, letters-start, letters-next, letters-stop, letters-end}
-use Rattle.walk.proofs.turn.Statement.{statement}
-use Rattle.walk.proofs.turn.Tie as tie
+use Rattle.walk.specs.Representation.{PresentOf}
+use Rattle.walk.proofs.FoldLoops.{Kept, other-stops}
+use Rattle.walk.proofs.ExpandLoops.{LettersToGo, letters-start, letters-next, letters-stop, letters-end}
+use Rattle.walk.proofs.expand.Statement.{statement}
+use Rattle.walk.proofs.expand.Tie as tie
 
 abbrev Inv-loop : tie.InvT-loop
 Inv-loop rules lefts masks work₀ heads₀ nexts₀ n p table letters v present listed₀ letter₀ work heads nexts listed letter =
     (letters ≡ rules .letters) × (letter ≤ letters) × Kept work₀ heads₀ nexts₀ work heads nexts listed
     × PresentOf present (v .counters) (rules .states)
-    × LettersLeft rules lefts masks v p work₀ n work listed letter
+    × LettersToGo rules lefts masks v p work₀ n work listed letter
 
 abbrev μ-loop : tie.MeasureT-loop
 μ-loop rules lefts masks work₀ heads₀ nexts₀ n p table letters v present listed₀ letter₀ work heads nexts listed letter =
@@ -41,8 +41,8 @@ loop-holds c =
           (l .load .ensures) (s .pre .1),
     )
 
-visit-letter-requires : tie.Need-visit-letter-requires Inv-loop μ-loop
-visit-letter-requires c κs =
+expand-letter-requires : tie.Need-expand-letter-requires Inv-loop μ-loop
+expand-letter-requires c κs =
     let h = c .before .before .before in
     let s = h .before .before .before .before .before .before .before .before .before in
     let l = s .pre .0 .lefts (s .args .p) (s .pre .1) in (
@@ -62,22 +62,22 @@ enum-known-seen c = search needs
 same-length : tie.Need-same-length Inv-loop μ-loop
 same-length c =
     let w = c .before .before .before .before .before .before .before in
-    w .visit-letter .kept .1 .1 .1 .0 ∙ w .before .before .before .before .before .loop .inv .2 .work-long
+    w .expand-letter .kept .1 .1 .1 .0 ∙ w .before .before .before .before .before .loop .inv .2 .work-long
 
 same-length-2 : tie.Need-same-length-2 Inv-loop μ-loop
 same-length-2 c =
     let w = c .before .before .before .before .before .before .before in
-    w .visit-letter .kept .1 .1 .1 .1 .0 ∙ w .before .before .before .before .before .loop .inv .2 .heads-long
+    w .expand-letter .kept .1 .1 .1 .1 .0 ∙ w .before .before .before .before .before .loop .inv .2 .heads-long
 
 same-length-3 : tie.Need-same-length-3 Inv-loop μ-loop
 same-length-3 c =
     let w = c .before .before .before .before .before .before .before in
-    w .visit-letter .kept .1 .1 .1 .1 .1 .0 ∙ w .before .before .before .before .before .loop .inv .2 .nexts-long
+    w .expand-letter .kept .1 .1 .1 .1 .1 .0 ∙ w .before .before .before .before .before .loop .inv .2 .nexts-long
 
 returns : tie.Need-returns Inv-loop μ-loop
 returns c =
     let w = c .before .before .before .before .before .before .before in
-    let v = w .visit-letter in
+    let v = w .expand-letter in
     let h = w .before .before .before .before in
     let l = h .before .loop in
     let a = h .before .before .before .before .before .before .before .before .before .args in (
@@ -99,7 +99,7 @@ loop-less c = search needs
 loop-again : tie.Need-loop-again Inv-loop μ-loop
 loop-again c =
     let w = c .before .before .before .before .before .before .before .before .before in
-    let v = w .visit-letter in
+    let v = w .expand-letter in
     let h = w .before .before .before .before in
     let l = h .before .loop in
     let a = h .before .before .before .before .before .before .before .before .before .args in
@@ -138,8 +138,8 @@ returns-2 c =
       l .inv .2 .ready,
     )
 
-pub turn-spec : {M : Type 1} → statement M
-turn-spec =
+pub expand-spec : {M : Type 1} → statement M
+expand-spec =
     tie.close
     (tie.spec
     Inv-loop
@@ -147,7 +147,7 @@ turn-spec =
     load-requires
     present-of-requires
     loop-holds
-    visit-letter-requires
+    expand-letter-requires
     enum-known-seen
     same-length
     same-length-2

@@ -1,4 +1,4 @@
--- `walk::visit_targets` meets its contract. Before each target the visits of those that are left, from the list that the work buffer
+-- `walk::discover_targets` meets its contract. Before each target those that are still to come, discovered from the list that the work buffer
 -- shows, make the walk of all of them. Assumes nothing.
 use mathlib.Core.Path.{_≡_, refl, _∙_}
 use mathlib.Core.Bool.{true}
@@ -9,15 +9,15 @@ use Rattle.automaton.specs.Members.{transitionIn}
 use Rattle.automaton.specs.Sets.{bit, member}
 use Rattle.slots.specs.Bytes.{countersHash}
 use Rattle.automaton.proofs.Members.{next-from, next-to, next-holds}
-use Rattle.walk.proofs.Onward.{Kept, TargetsLeft, other-stops, targets-start, targets-next, targets-stop, targets-end, target-part}
-use Rattle.walk.proofs.visit_targets.Statement.{statement}
-use Rattle.walk.proofs.visit_targets.Tie as tie
+use Rattle.walk.proofs.FoldLoops.{Kept, TargetsToGo, other-stops, targets-start, targets-next, targets-stop, targets-end, target-part}
+use Rattle.walk.proofs.discover_targets.Statement.{statement}
+use Rattle.walk.proofs.discover_targets.Tie as tie
 
 abbrev Inv-loop : tie.InvT-loop
 Inv-loop accepting transitions work₀ heads₀ nexts₀ n p step table left letter lowered-hash others-hash targets listed₀ t₀ work heads nexts listed t =
     (left ≡ step .left) × (letter ≡ step .letter) × (lowered-hash ≡ countersHash (step .lowered))
     × (others-hash ≡ countersHash (step .others)) × ((r : ℕ) → r < 32 → bit targets r ≡ transitionIn transitions left letter r) × (t ≤ 32) × (t < 32 → transitionIn transitions left letter t ≡ true)
-    × Kept work₀ heads₀ nexts₀ work heads nexts listed × TargetsLeft accepting transitions step p work₀ n work listed t
+    × Kept work₀ heads₀ nexts₀ work heads nexts listed × TargetsToGo accepting transitions step p work₀ n work listed t
 
 abbrev μ-loop : tie.MeasureT-loop
 μ-loop accepting transitions work₀ heads₀ nexts₀ n p step table left letter lowered-hash others-hash targets listed₀ t₀ work heads nexts listed t = 32 - t
@@ -53,11 +53,11 @@ target-vertex-requires c κs = search needs
 target-hash-requires : tie.Need-target-hash-requires Inv-loop μ-loop
 target-hash-requires c κs = search needs
 
-cast-visit : tie.Need-cast-visit Inv-loop μ-loop
-cast-visit c = search needs
+cast-discover : tie.Need-cast-discover Inv-loop μ-loop
+cast-discover c = search needs
 
-visit-requires : tie.Need-visit-requires Inv-loop μ-loop
-visit-requires c κs =
+discover-requires : tie.Need-discover-requires Inv-loop μ-loop
+discover-requires c κs =
     let k = c .before .before .before .before .before in
     let u = k .before in
     let h = u .before in
@@ -77,22 +77,22 @@ enum-known-seen c = search needs
 same-length : tie.Need-same-length Inv-loop μ-loop
 same-length c =
     let w = c .before .before .before .before .before .before .before in
-    w .visit .kept .0 ∙ w .before .before .before .before .before .before .before .before .before .loop .inv .7 .work-long
+    w .discover .kept .0 ∙ w .before .before .before .before .before .before .before .before .before .loop .inv .7 .work-long
 
 same-length-2 : tie.Need-same-length-2 Inv-loop μ-loop
 same-length-2 c =
     let w = c .before .before .before .before .before .before .before in
-    w .visit .kept .1 .0 ∙ w .before .before .before .before .before .before .before .before .before .loop .inv .7 .heads-long
+    w .discover .kept .1 .0 ∙ w .before .before .before .before .before .before .before .before .before .loop .inv .7 .heads-long
 
 same-length-3 : tie.Need-same-length-3 Inv-loop μ-loop
 same-length-3 c =
     let w = c .before .before .before .before .before .before .before in
-    w .visit .kept .1 .1 .0 ∙ w .before .before .before .before .before .before .before .before .before .loop .inv .7 .nexts-long
+    w .discover .kept .1 .1 .0 ∙ w .before .before .before .before .before .before .before .before .before .loop .inv .7 .nexts-long
 
 returns : tie.Need-returns Inv-loop μ-loop
 returns c =
     let w = c .before .before .before .before .before .before .before in
-    let v = w .visit in
+    let v = w .discover in
     let h = w .before .before .before .before .before .before .before .before in
     let k = h .loop-test .taken in
     let u = w .before .before .before .before .before .before .before .target-vertex in
@@ -122,7 +122,7 @@ loop-less c =
 loop-again : tie.Need-loop-again Inv-loop μ-loop
 loop-again c =
     let w = c .before .before .before .before .before .before .before .before .before .before in
-    let v = w .visit in
+    let v = w .discover in
     let h = w .before .before .before .before .before .before .before .before in
     let k = h .loop-test .taken in
     let u = w .before .before .before .before .before .before .before .target-vertex in
@@ -169,8 +169,8 @@ returns-2 c =
       l .inv .7 .ready,
     )
 
-pub visit-targets-spec : {M : Type 1} → statement M
-visit-targets-spec =
+pub discover-targets-spec : {M : Type 1} → statement M
+discover-targets-spec =
     tie.close
     (tie.spec
     Inv-loop
@@ -180,8 +180,8 @@ visit-targets-spec =
     loop-holds
     target-vertex-requires
     target-hash-requires
-    cast-visit
-    visit-requires
+    cast-discover
+    discover-requires
     enum-known-seen
     same-length
     same-length-2

@@ -1,4 +1,4 @@
--- `walk::turns` meets its contract. Before each place the turns that are left, from the list that the work buffer shows, make the walk;
+-- `walk::expand_all` meets its contract. Before each place those still to come, expanded from the list that the work buffer represents, make the walk;
 -- places are listed ones, so there are no more of them than slots. Assumes nothing.
 use mathlib.Core.Path.{refl, _∙_, ap}
 use Prim.Native.Nat.{_-_}
@@ -6,15 +6,15 @@ use native.Mathlib.Omega.{arith}
 use borrow.Author.Needs.{needs}
 use lib.ListN.{length}
 use Rattle.slots.specs.Slots.{slotCount}
-use Rattle.walk.proofs.Onward.{Kept, other-stops}
-use Rattle.walk.proofs.TurnLoops.{TurnsLeft, turns-start, turns-next, turns-stop, turns-end}
-use Rattle.walk.proofs.turns.Statement.{statement}
-use Rattle.walk.proofs.turns.Tie as tie
+use Rattle.walk.proofs.FoldLoops.{Kept, other-stops}
+use Rattle.walk.proofs.ExpandLoops.{PlacesToGo, expand-all-start, expand-all-next, expand-all-stop, expand-all-end}
+use Rattle.walk.proofs.expand_all.Statement.{statement}
+use Rattle.walk.proofs.expand_all.Tie as tie
 
 abbrev Inv-loop : tie.InvT-loop
 Inv-loop rules lefts masks work₀ heads₀ nexts₀ n table listed₀ p₀ work heads nexts listed p =
     Kept work₀ heads₀ nexts₀ work heads nexts listed
-    × TurnsLeft rules lefts masks work₀ n work listed p
+    × PlacesToGo rules lefts masks work₀ n work listed p
 
 abbrev μ-loop : tie.MeasureT-loop
 μ-loop rules lefts masks work₀ heads₀ nexts₀ n table listed₀ p₀ work heads nexts listed p = slotCount (length work₀) - p
@@ -24,11 +24,11 @@ loop-holds c =
     let s = c .before .before .before in
     let a = s .args in (
       record { work-long = refl; heads-long = refl; nexts-long = refl; ready = s .pre .0 },
-      turns-start (a .rules) (a .lefts .now) (a .masks .now) (a .work .now) (a .n),
+      expand-all-start (a .rules) (a .lefts .now) (a .masks .now) (a .work .now) (a .n),
     )
 
-turn-requires : tie.Need-turn-requires Inv-loop μ-loop
-turn-requires c κs = (
+expand-requires : tie.Need-expand-requires Inv-loop μ-loop
+expand-requires c κs = (
   c .before .before .before .before .loop .inv .0 .ready,
   c .before .before .before .loop-test .taken,
   c .before .before .before .before .before .before .before .before .pre .1,
@@ -42,26 +42,26 @@ enum-known-seen c = search needs
 same-length : tie.Need-same-length Inv-loop μ-loop
 same-length c =
     let w = c .before .before .before .before .before .before .before in
-    w .turn .kept .1 .1 .1 .0 ∙ w .before .before .before .before .before .loop .inv .0 .work-long
+    w .expand .kept .1 .1 .1 .0 ∙ w .before .before .before .before .before .loop .inv .0 .work-long
 
 same-length-2 : tie.Need-same-length-2 Inv-loop μ-loop
 same-length-2 c =
     let w = c .before .before .before .before .before .before .before in
-    w .turn .kept .1 .1 .1 .1 .0 ∙ w .before .before .before .before .before .loop .inv .0 .heads-long
+    w .expand .kept .1 .1 .1 .1 .0 ∙ w .before .before .before .before .before .loop .inv .0 .heads-long
 
 same-length-3 : tie.Need-same-length-3 Inv-loop μ-loop
 same-length-3 c =
     let w = c .before .before .before .before .before .before .before in
-    w .turn .kept .1 .1 .1 .1 .1 .0 ∙ w .before .before .before .before .before .loop .inv .0 .nexts-long
+    w .expand .kept .1 .1 .1 .1 .1 .0 ∙ w .before .before .before .before .before .loop .inv .0 .nexts-long
 
 returns : tie.Need-returns Inv-loop μ-loop
 returns c =
     let w = c .before .before .before .before .before .before .before in
-    let v = w .turn in
+    let v = w .expand in
     let h = w .before .before .before .before in
     let l = h .before .loop in
     let a = h .before .before .before .before .before .args in
-    turns-stop (a .rules) (a .lefts .now) (a .masks .now) (a .work .now) (a .n)
+    expand-all-stop (a .rules) (a .lefts .now) (a .masks .now) (a .work .now) (a .n)
     (l .work) (l .listed) (l .p) (l .inv .1) (h .loop-test .taken)
     (v .last .1 .1 .1 .0) (v .result) (v .ensures .0) (other-stops (v .result) (c .match .keys2))
 
@@ -79,7 +79,7 @@ loop-less c =
 loop-again : tie.Need-loop-again Inv-loop μ-loop
 loop-again c =
     let w = c .before .before .before .before .before .before .before .before .before in
-    let v = w .turn in
+    let v = w .expand in
     let h = w .before .before .before .before in
     let l = h .before .loop in
     let a = h .before .before .before .before .before .args in
@@ -90,7 +90,7 @@ loop-again c =
         nexts-long = v .kept .1 .1 .1 .1 .1 .0 ∙ l .inv .0 .nexts-long;
         ready = rw g at (v .ensures .1);
       },
-      turns-next (a .rules) (a .lefts .now) (a .masks .now) (a .work .now) (a .n)
+      expand-all-next (a .rules) (a .lefts .now) (a .masks .now) (a .work .now) (a .n)
           (l .work) (l .listed) (l .p) (l .inv .1) (h .loop-test .taken)
           (v .last .1 .1 .1 .0) (v .result) (v .ensures .0) _ g,
     )
@@ -108,17 +108,17 @@ returns-2 : tie.Need-returns-2 Inv-loop μ-loop
 returns-2 c =
     let l = c .before .loop in
     let a = c .before .before .before .before .before .args in
-    turns-end (a .rules) (a .lefts .now) (a .masks .now) (a .work .now) (a .n)
+    expand-all-end (a .rules) (a .lefts .now) (a .masks .now) (a .work .now) (a .n)
     (l .work) (l .listed) (l .p) (l .inv .1) (c .loop-test .left)
 
-pub turns-spec : {M : Type 1} → statement M
-turns-spec =
+pub expand-all-spec : {M : Type 1} → statement M
+expand-all-spec =
     tie.close
     (tie.spec
     Inv-loop
     μ-loop
     loop-holds
-    turn-requires
+    expand-requires
     enum-known-seen
     same-length
     same-length-2

@@ -1,8 +1,8 @@
 -- How the code's answers and the bytes of the work buffer show a walk, for the contracts of the code.
 --   walkedOf S w             the answer for the walk w with S slots: "count = list length", "place i of the final vertex", "count S"
---   Shown work r start w     r is the answer for w, and work is the buffer that was `start` when the walk began, after w
+--   Represents work r start w     r is the answer for w, and work is the buffer that was `start` when the walk began, after w
 --   Becomes                  from a buffer that shows a list with n vertices the code goes on to show what `step` makes of it
---   Ready                    a work buffer with n slots taken, and its index: what the next visit needs
+--   Ready                    a work buffer with n slots taken, and its index: what the next successor needs
 --   Side                     the bytes of the accepting states and of the transitions are those of the automaton A, which is in range
 --   Masks masks t n k        the masks of the transitions t from the states below n on the letters below k: 255 or 0
 --   RightSide                the bytes of the accepting states, the number n of states and the masks are those of the automaton B
@@ -52,7 +52,7 @@ abbrev pub Wide : List (Node Vertex) → Type 0
 Wide [] = Unit {0}
 Wide (n ∷ ns) = (length (n .vertex .counters) ≡ maxStates) × Wide ns
 
-pub record Shown (work : List ℕ) (r : Walked) (start : List ℕ) (w : Walk Vertex) : Type 0 where
+pub record Represents (work : List ℕ) (r : Walked) (start : List ℕ) (w : Walk Vertex) : Type 0 where
   pub answer : r ≡ walkedOf (slotCount (length start)) w
   pub bytes : work ≡ workAfter start w
   pub wide : Wide (nodesOf w)
@@ -61,15 +61,15 @@ pub record Shown (work : List ℕ) (r : Walked) (start : List ℕ) (w : Walk Ver
 -- `step` takes the number of slots
 abbrev pub Becomes : List ℕ → ℕ → List ℕ → Walked → (ℕ → Walk Vertex → Walk Vertex) → Type 0
 Becomes before n after r step =
-    (start : List ℕ) (ns : List (Node Vertex)) → Shown before (Going n) start (going ns)
-    → Shown after r start (step (slotCount (length start)) (going ns))
+    (start : List ℕ) (ns : List (Node Vertex)) → Represents before (Going n) start (going ns)
+    → Represents after r start (step (slotCount (length start)) (going ns))
 
 pub record Ready (work heads nexts : List ℕ) (n : ℕ) : Type 0 where
   pub room : n ≤ slotCount (length work)
   pub index : Indexed work heads nexts n
   pub lefts : (s : ℕ) → s < n → vertexAt work s .left < maxStates
 
--- the list goes on: what the next visit needs is there
+-- the list goes on: what the next successor needs is there
 abbrev pub ReadyAfter : Walked → List ℕ → List ℕ → List ℕ → Type 0
 ReadyAfter (Going n) work heads nexts = Ready work heads nexts n
 ReadyAfter (Ended i a p) work heads nexts = Unit {0}

@@ -1,12 +1,12 @@
--- `verdict::turn_letter` meets its contract: the targets of a state choose among the pairs, each with its visits. Assumes nothing.
+-- `verdict::prepend_letter` meets its contract: the targets of a state choose among the pairs, each with its visits. Assumes nothing.
 use mathlib.Core.Path.{subst}
 use native.Mathlib.Omega.{arith}
 use Rattle.unions.specs.Unions.{Unions}
 use Rattle.unions.proofs.UnionTables.{filled-unions, groups-enough}
-use Rattle.verdict.proofs.WordSets.{turned-on}
+use Rattle.verdict.proofs.WordSets.{pairs-on}
 use borrow.Author.Needs.{needs}
-use Rattle.verdict.proofs.turn_letter.Statement.{statement}
-use Rattle.verdict.proofs.turn_letter.Tie as tie
+use Rattle.verdict.proofs.prepend_letter.Statement.{statement}
+use Rattle.verdict.proofs.prepend_letter.Tie as tie
 
 met-pairs-requires : tie.Need-met-pairs-requires
 met-pairs-requires c κs = search needs
@@ -44,12 +44,12 @@ returns c A v h held t =
     let few = groups-enough (a .n) (omega arith) in
     let unions = filled-unions (a .table .now) (fill .fill .last .0) after 0 0 (groups .groups-for .result)
     (omega (arith, few .0, groups .groups-for .ensures, entry .pre .4)) (fill .fill .ensures) in
-    turned-on A (a .n) (a .letters) (a .rows .now) h (a .letter) (a .accepting) v (a .pairs .now) after _ held t (met .met-pairs .ensures .0)
+    pairs-on A (a .n) (a .letters) (a .rows .now) h (a .letter) (a .accepting) v (a .pairs .now) after _ held t (met .met-pairs .ensures .0)
     (join .join-pairs .ensures A after h
     (subst (Unions (fill .fill .last .0) 0 after 0) (groups .groups-for .ensures) (unions .0)))
 
-pub turn-letter-spec : {M : Type 1} → statement M
-turn-letter-spec =
+pub prepend-letter-spec : {M : Type 1} → statement M
+prepend-letter-spec =
     tie.close
     (tie.spec
     met-pairs-requires

@@ -17,15 +17,15 @@ use Rattle.automaton.proofs.Tests.{or-left, or-right, T-true}
 use Rattle.slots.specs.declared.Vertex.{Vertex}
 use Rattle.slots.specs.declared.Found.the-variants.{At, Nothing}
 use Rattle.slots.specs.Slots.{slotSize, slotCount, slotBytes, sameVertex, allZero}
-use Rattle.slots.specs.Bytes.{stored, vertexAt, letterAt, parentAt, lastBelow, Indexed}
-use Rattle.slots.proofs.SlotLayout.{slot-long, vertex-read, letter-read, parent-read, slot-passed, stored-long, stored-vertex, stored-below}
+use Rattle.slots.specs.Bytes.{withSlot, vertexAt, letterAt, parentAt, lastBelow, Indexed}
+use Rattle.slots.proofs.SlotLayout.{slot-long, vertex-read, letter-read, parent-read, slot-passed, with-slot-long, with-slot-vertex, with-slot-below}
 use Rattle.slots.proofs.Chains.{last-found, last-absent}
 use Rattle.walk.specs.declared.Walked.{Walked}
 use Rattle.walk.specs.declared.Walked.the-variants.{Going, Ended, Full}
-use Rattle.graph.specs.Discovery.{Node, Walk, going, nodesOf, node, below, listed, visit, at}
+use Rattle.graph.specs.Discovery.{Node, Walk, going, nodesOf, node, below, listed, discover, at}
 use Rattle.graph.specs.LagGraph.{lagGraph}
 use Rattle.graph.specs.Walks.{slotsOf, workAfter}
-use Rattle.walk.specs.Shown.{Wide, Shown, Ready}
+use Rattle.walk.specs.Representation.{Wide, Represents, Ready}
 
 abbrev slotOf : Node Vertex → List ℕ
 slotOf n = slotBytes (n .vertex) (n .letter) (n .parent)
@@ -49,19 +49,19 @@ wide-more (m ∷ ns) n w l = (w .0, wide-more ns n (w .1) l)
 slots-fit : (k len : ℕ) → k ≤ slotCount len → slotSize * k ≤ len
 slots-fit k len h = omega arith
 
-module _ (work : List ℕ) (r : Walked) (start : List ℕ) (w : Walk Vertex) (S : Shown work r start w) where
-  pub shown-length : length work ≡ length start
+module _ (work : List ℕ) (r : Walked) (start : List ℕ) (w : Walk Vertex) (S : Represents work r start w) where
+  pub represented-length : length work ≡ length start
   unfolding workAfter
-  shown-length =
+  represented-length =
       let k = length (nodesOf w) in
       ap length (S .bytes) ∙ length-append (slotsOf (nodesOf w)) (drop (slotSize * k) start)
       ∙ omega (arith, slots-long (nodesOf w) (S .wide), length-drop (slotSize * k) start, slots-fit k (length start) (S .room))
 
 -- one slot more behind those of the list
-stored-bytes : (start : List ℕ) (ns : List (Node Vertex)) (m : Node Vertex) → Wide ns
-    → stored (workAfter start (going ns)) (length ns) (m .vertex) (m .letter) (m .parent) ≡ workAfter start (going (ns ++ m ∷ []))
-unfolding stored workAfter
-stored-bytes start ns m w =
+with-slot-bytes : (start : List ℕ) (ns : List (Node Vertex)) (m : Node Vertex) → Wide ns
+    → withSlot (workAfter start (going ns)) (length ns) (m .vertex) (m .letter) (m .parent) ≡ workAfter start (going (ns ++ m ∷ []))
+unfolding withSlot workAfter
+with-slot-bytes start ns m w =
     let k = length ns in
     let X = slotsOf ns in
     let D = drop (slotSize * k) start in
@@ -74,10 +74,10 @@ stored-bytes start ns m w =
     ∙ sym (append-assoc X (slotOf m) (drop (slotSize * length (ns ++ m ∷ [])) start))
     ∙ ap (λ (x : List ℕ). x ++ drop (slotSize * length (ns ++ m ∷ [])) start) (sym (slots-more ns m))
 
--- before the first visit
-pub shown-none : (work : List ℕ) → Shown work (Going 0) work (going [])
+-- before anything is discovered
+pub represented-none : (work : List ℕ) → Represents work (Going 0) work (going [])
 unfolding workAfter slotsOf flatMap
-shown-none work = record { answer = refl; bytes = refl; wide = tt; room = omega arith }
+represented-none work = record { answer = refl; bytes = refl; wide = tt; room = omega arith }
 
 module _ (A B : Automaton) (b : ℕ) where
   slot-from : (work : List ℕ) (ms : List (Node Vertex)) (rest : List ℕ) (s i : ℕ) → Wide ms
@@ -102,11 +102,11 @@ module _ (A B : Automaton) (b : ℕ) where
       (omega arith))
 
   -- each slot holds its node
-  pub slot-shown : (work : List ℕ) (r : Walked) (start : List ℕ) (w : Walk Vertex) → Shown work r start w → (i : ℕ) → i < length (nodesOf w)
+  pub slot-represented : (work : List ℕ) (r : Walked) (start : List ℕ) (w : Walk Vertex) → Represents work r start w → (i : ℕ) → i < length (nodesOf w)
       → (vertexAt work i ≡ at (lagGraph A B b) (nodesOf w) i .vertex) × (letterAt work i ≡ at (lagGraph A B b) (nodesOf w) i .letter)
       × (parentAt work i ≡ at (lagGraph A B b) (nodesOf w) i .parent)
   unfolding workAfter
-  slot-shown work r start w S i h =
+  slot-represented work r start w S i h =
       rw zero-add at (slot-from work (nodesOf w) (drop (slotSize * length (nodesOf w)) start) 0 i (S .wide) (S .bytes) h)
 
   listed-at : (v : Vertex) (ns : List (Node Vertex)) (i : ℕ) → i < length ns → T (sameVertex v (at (lagGraph A B b) ns i .vertex))
@@ -122,76 +122,76 @@ module _ (A B : Automaton) (b : ℕ) where
   not-listed v (n ∷ ns) h =
       ap₂ (λ (x y : Bool). x || y) (h 0 (omega arith)) (not-listed v ns (λ i l. h (suc i) (omega arith)))
 
-  -- one visit, by what the search and the tests found
-  module _ (work : List ℕ) (n : ℕ) (start : List ℕ) (ns : List (Node Vertex)) (S : Shown work (Going n) start (going ns))
+  -- one successor, by what the search and the tests found
+  module _ (work : List ℕ) (n : ℕ) (start : List ℕ) (ns : List (Node Vertex)) (S : Represents work (Going n) start (going ns))
       (p a : ℕ) (v : Vertex) where
     count : n ≡ length ns
     count = let e = S .answer in cc
 
     abbrev after : Walk Vertex
-    after = visit (lagGraph A B b) (below (slotCount (length start))) p (going ns) (a, v)
+    after = discover (lagGraph A B b) (below (slotCount (length start))) p (going ns) (a, v)
 
     is-listed : (i : ℕ) → lastBelow work v n ≡ At i → listed (lagGraph A B b) v ns ≡ true
     is-listed i e =
         let f = last-found work v n i e in
-        let d = slot-shown work (Going n) start (going ns) S i (omega (arith, f .0, count)) in
+        let d = slot-represented work (Going n) start (going ns) S i (omega (arith, f .0, count)) in
         T-true (listed (lagGraph A B b) v ns) (listed-at v ns i (omega (arith, f .0, count)) (rw (d .0) at (f .1)))
 
     none-listed : lastBelow work v n ≡ Nothing → listed (lagGraph A B b) v ns ≡ false
     none-listed e =
         not-listed v ns
         (λ i h.
-        let d = slot-shown work (Going n) start (going ns) S i h in
+        let d = slot-represented work (Going n) start (going ns) S i h in
         rw (d .0) at (last-absent work v n e i (omega (arith, count))))
 
-    pub visit-known : (i : ℕ) → lastBelow work v n ≡ At i → Shown work (Going n) start after
-    visit-known i e = rw (is-listed i e) S
+    pub discover-known : (i : ℕ) → lastBelow work v n ≡ At i → Represents work (Going n) start after
+    discover-known i e = rw (is-listed i e) S
 
-    pub visit-final : lastBelow work v n ≡ Nothing → allZero (v .counters) ≡ true → Shown work (Ended n a p) start after
+    pub discover-final : lastBelow work v n ≡ Nothing → allZero (v .counters) ≡ true → Represents work (Ended n a p) start after
     unfolding workAfter
-    visit-final e z =
+    discover-final e z =
         rw (none-listed e, z)
         (record { answer = ap (λ (k : ℕ). Ended k a p) count; bytes = S .bytes; wide = S .wide; room = S .room })
 
-    pub visit-full : lastBelow work v n ≡ Nothing → allZero (v .counters) ≡ false → slotCount (length work) ≤ n
-        → Shown work (Full n) start after
+    pub discover-full : lastBelow work v n ≡ Nothing → allZero (v .counters) ≡ false → slotCount (length work) ≤ n
+        → Represents work (Full n) start after
     unfolding workAfter
-    visit-full e z h =
-        let l = shown-length work (Going n) start (going ns) S in
+    discover-full e z h =
+        let l = represented-length work (Going n) start (going ns) S in
         let k = S .room in
         let q : slotCount (length work) ≡ slotCount (length start) = ap slotCount l in
         let s : n ≡ slotCount (length start) = omega (arith, count) in
         rw (none-listed e, z, le-ltb (length ns) (slotCount (length start)) (omega (arith, count)))
         (record { answer = ap Full s; bytes = S .bytes; wide = S .wide; room = S .room })
 
-    pub visit-stored : lastBelow work v n ≡ Nothing → allZero (v .counters) ≡ false → n < slotCount (length work)
-        → length (v .counters) ≡ maxStates → Shown (stored work n v a p) (Going (n + 1)) start after
-    visit-stored e z h wide =
+    pub discover-with-slot : lastBelow work v n ≡ Nothing → allZero (v .counters) ≡ false → n < slotCount (length work)
+        → length (v .counters) ≡ maxStates → Represents (withSlot work n v a p) (Going (n + 1)) start after
+    discover-with-slot e z h wide =
         rw (none-listed e, z, lt-ltb (length ns) (slotCount (length start)) (omega (arith, count, slots)))
         (record {
           answer = ap Going (omega (arith, count, length-append ns (node (a, v) p ∷ [])));
-          bytes = ap₂ (λ (x : List ℕ) (k : ℕ). stored x k v a p) (S .bytes) count ∙ stored-bytes start ns (node (a, v) p) (S .wide);
+          bytes = ap₂ (λ (x : List ℕ) (k : ℕ). withSlot x k v a p) (S .bytes) count ∙ with-slot-bytes start ns (node (a, v) p) (S .wide);
           wide = wide-more ns (node (a, v) p) (S .wide) wide;
           room = omega (arith, count, slots, length-append ns (node (a, v) p ∷ []));
         })
       where
         slots : slotCount (length work) ≡ slotCount (length start)
-        slots = ap slotCount (shown-length work (Going n) start (going ns) S)
+        slots = ap slotCount (represented-length work (Going n) start (going ns) S)
 
--- what the next visit needs is there again once a vertex has been stored
-pub ready-stored : (work heads nexts heads′ nexts′ : List ℕ) (n a p : ℕ) (v : Vertex) → Ready work heads nexts n
+-- what the next successor needs is there again once a slot has been written
+pub ready-with-slot : (work heads nexts heads′ nexts′ : List ℕ) (n a p : ℕ) (v : Vertex) → Ready work heads nexts n
     → n < slotCount (length work) → v .left < maxStates → length (v .counters) ≡ maxStates
-    → Indexed (stored work n v a p) heads′ nexts′ (n + 1) → Ready (stored work n v a p) heads′ nexts′ (n + 1)
-ready-stored work heads nexts heads′ nexts′ n a p v R h l wide I =
+    → Indexed (withSlot work n v a p) heads′ nexts′ (n + 1) → Ready (withSlot work n v a p) heads′ nexts′ (n + 1)
+ready-with-slot work heads nexts heads′ nexts′ n a p v R h l wide I =
     record {
-      room = let e = ap slotCount (stored-long work n v a p fits wide) in omega arith;
+      room = let e = ap slotCount (with-slot-long work n v a p fits wide) in omega arith;
       index = I;
       lefts = λ s k.
           ⊎-elim
           (λ q.
           subst (λ (u : Vertex). u .left < maxStates)
-          (sym (ap (vertexAt (stored work n v a p)) q ∙ stored-vertex work n v a p fits wide)) l)
-          (λ q. subst (λ (u : Vertex). u .left < maxStates) (sym (stored-below work n v a p fits s wide q)) (R .lefts s q))
+          (sym (ap (vertexAt (withSlot work n v a p)) q ∙ with-slot-vertex work n v a p fits wide)) l)
+          (λ q. subst (λ (u : Vertex). u .left < maxStates) (sym (with-slot-below work n v a p fits s wide q)) (R .lefts s q))
           (eq-or-lt-of-le {n = s} {m = n} (omega arith));
     }
   where

@@ -1,11 +1,11 @@
--- `walk::visit` meets its contract: the search tells whether the vertex is listed, and the tests after it decide among final, stored
+-- `walk::discover` meets its contract: the search tells whether the vertex is listed, and the tests after it decide among final, slot written
 -- and no slot left. Assumes nothing.
 use mathlib.Core.Path.{sym, _∙_}
 use borrow.Author.Needs.{needs}
-use Rattle.walk.specs.Shown.{vertexOf}
-use Rattle.walk.proofs.ShownSlots.{visit-known, visit-final, visit-full, visit-stored, ready-stored}
-use Rattle.walk.proofs.visit.Statement.{statement}
-use Rattle.walk.proofs.visit.Tie as tie
+use Rattle.walk.specs.Representation.{vertexOf}
+use Rattle.walk.proofs.RepresentedSlots.{discover-known, discover-final, discover-full, discover-with-slot, ready-with-slot}
+use Rattle.walk.proofs.discover.Statement.{statement}
+use Rattle.walk.proofs.discover.Tie as tie
 
 vertex-hash-requires : tie.Need-vertex-hash-requires
 vertex-hash-requires c κs = search needs
@@ -37,7 +37,7 @@ returns c =
     let a = f .before .before .before .before .before .before .before .before .before .args in
     let g = sym (f .find .ensures) ∙ c .before .before .before .enum-told2 .given .1 in
     let z = sym (c .before .is-final .ensures) ∙ c .if1 .taken in
-    (λ A B b start ns S. visit-final A B b (a .work .now) (a .n) start ns S (a .p) (a .letter) (vertexOf (a .left) (a .counters .now)) g z, tt)
+    (λ A B b start ns S. discover-final A B b (a .work .now) (a .n) start ns S (a .p) (a .letter) (vertexOf (a .left) (a .counters .now)) g z, tt)
 
 slot-count-requires : tie.Need-slot-count-requires
 slot-count-requires c κs = search needs
@@ -67,7 +67,7 @@ returns-2 c =
     let s = f .before .before .before .before .before .before .before .before .before in
     let a = s .args in
     let g = sym (f .find .ensures) ∙ c .enum-told .given .1 in
-    (λ A B b start ns S. visit-known A B b (a .work .now) (a .n) start ns S (a .p) (a .letter) (vertexOf (a .left) (a .counters .now)) _ g, s .pre .0)
+    (λ A B b start ns S. discover-known A B b (a .work .now) (a .n) start ns S (a .p) (a .letter) (vertexOf (a .left) (a .counters .now)) _ g, s .pre .0)
 
 same-length-7 : tie.Need-same-length-7
 same-length-7 c = search needs
@@ -90,9 +90,9 @@ returns-3 c =
     let h = rw (t .before .slot-count .ensures) at (t .if2 .taken) in
     let l = f .before .before .before .before .vertex-hash .ensures .2 in
     let p = c .before .before .before .before .before .before .append .ensures in (
-      λ A B b start ns S. rw (p .0) (visit-stored A B b (a .work .now) (a .n) start ns S (a .p) (a .letter) (vertexOf (a .left) (a .counters .now)) g z h l),
+      λ A B b start ns S. rw (p .0) (discover-with-slot A B b (a .work .now) (a .n) start ns S (a .p) (a .letter) (vertexOf (a .left) (a .counters .now)) g z h l),
       rw (p .0)
-          (ready-stored (a .work .now) (a .heads .now) (a .nexts .now) _ _ (a .n) (a .letter) (a .p) (vertexOf (a .left) (a .counters .now)) (s .pre .0) h (s .pre .1) l
+          (ready-with-slot (a .work .now) (a .heads .now) (a .nexts .now) _ _ (a .n) (a .letter) (a .p) (vertexOf (a .left) (a .counters .now)) (s .pre .0) h (s .pre .1) l
           (rw (p .0) at (p .1))),
     )
 
@@ -113,10 +113,10 @@ returns-4 c =
     let g = sym (f .find .ensures) ∙ e .before .before .before .enum-told2 .given .1 in
     let z = sym (e .before .is-final .ensures) ∙ e .if1 .left in
     let h = rw (c .before .slot-count .ensures) at (c .if2 .left) in
-    (λ A B b start ns S. visit-full A B b (a .work .now) (a .n) start ns S (a .p) (a .letter) (vertexOf (a .left) (a .counters .now)) g z h, tt)
+    (λ A B b start ns S. discover-full A B b (a .work .now) (a .n) start ns S (a .p) (a .letter) (vertexOf (a .left) (a .counters .now)) g z h, tt)
 
-pub visit-spec : {M : Type 1} → statement M
-visit-spec =
+pub discover-spec : {M : Type 1} → statement M
+discover-spec =
     tie.close
     (tie.spec
     vertex-hash-requires

@@ -1,4 +1,4 @@
--- `slots::holds` meets its contract: the test holds so far exactly if the counters before the present one are those of the slot.
+-- `slots::slot_has` meets its contract: the test slot_has so far exactly if the counters before the present one are those of the slot.
 -- Assumes nothing.
 use mathlib.Core.Path.{_≡_, refl, sym, _∙_}
 use Prim.Native.Nat.{_+_, _*_, _-_, _≤_}
@@ -11,8 +11,8 @@ use Rattle.slots.specs.Slots.{slotSize}
 use Rattle.slots.specs.Bytes.{vertexAt}
 use Rattle.slots.proofs.Compared.{every, every-more, every-is, left-differs, counter-differs, same-everywhere}
 use Rattle.slots.proofs.SlotLayout.{slot-fits, counters-long, counters-at}
-use Rattle.slots.proofs.holds.Statement.{statement}
-use Rattle.slots.proofs.holds.Tie as tie
+use Rattle.slots.proofs.slot_has.Statement.{statement}
+use Rattle.slots.proofs.slot_has.Tie as tie
 
 abbrev Inv-loop : tie.InvT-loop
 Inv-loop work s v at from same₀ r₀ same r = (at ≡ s * slotSize) × (from ≡ at + 1) × (r ≤ 32) × (length (v .counters) ≡ 32)
@@ -76,8 +76,8 @@ returns-2 c =
     (λ k i. eqb→eq _ _ (h k (omega arith)) ∙ sym (counters-at w (a .s) f k (omega arith))))
     (λ k i d. counter-differs (a .t3) v k (λ q. eqb-false _ _ d (q ∙ counters-at w (a .s) f k (omega arith))))
 
-pub holds-spec : {M : Type 1} → statement M
-holds-spec =
+pub slot-has-spec : {M : Type 1} → statement M
+slot-has-spec =
     tie.close
     (tie.spec
     Inv-loop

@@ -1,0 +1,226 @@
+-- The loop over the letters of a place and the loop over the places follow the definition: before each letter, and before each place,
+-- what is left of the fold from the list that the work buffer shows makes the walk of the whole. Assumes nothing.
+use mathlib.Core.Path.{_≡_, sym, _∙_, ap, subst}
+use mathlib.Core.Bool.{Bool, true, false}
+use mathlib.Core.List.{List, [], _++_, map, flatMap}
+use Prim.Native.Nat.{ℕ, suc, _+_, _-_, _≤_, _<_}
+use native.Mathlib.Nat.{sub-zero}
+use native.Mathlib.Numerals.{add-one}
+use native.Mathlib.Omega.{arith}
+use lib.ListN.{length}
+use Rattle.automaton.specs.declared.Automaton.{Automaton}
+use Rattle.automaton.specs.Automata.{maxStates, maxLetters, targets}
+use Rattle.automaton.specs.Members.{transitionIn, nextFrom}
+use Rattle.automaton.specs.Ranges.{table}
+use Rattle.slots.specs.declared.Vertex.{Vertex}
+use Rattle.slots.specs.Slots.{slotCount, noLetter, noParent}
+use Rattle.slots.specs.Bytes.{vertexAt}
+use Rattle.walk.specs.declared.Rules.{Rules}
+use Rattle.walk.specs.declared.Step.{Step}
+use Rattle.walk.specs.declared.Walked.{Walked}
+use Rattle.walk.specs.declared.Walked.the-variants.{Going}
+use Rattle.graph.specs.Discovery.{Node, Walk, going, ended, full, below, discover, discoverAll, successorsAt, expand, expandAll, begin}
+use Rattle.graph.specs.LagGraph.{initialVertex, successor, successors, lagGraph}
+use Rattle.graph.specs.Walks.{walkOf}
+use Rattle.walk.specs.Representation.{Represents, Becomes, Side, RightSide, RulesOf, Needed, StepOf}
+use Rattle.graph.proofs.Discoveries.{successors-in, expand-all-ended, expand-all-full, expand-all-past}
+use Rattle.walk.proofs.RepresentedSlots.{slot-represented, represented-none}
+use Rattle.walk.proofs.FoldLoops.{Stops, represented-going, FoldLoops, onward-next, onward-stop, onward-end, TargetsDone, no-targets}
+
+-- The letters on which a place is expanded.
+
+module _ (A B : Automaton) (b : ℕ) (v : Vertex) where
+  -- the successors on a letter, and on the letters from a on, of k
+  abbrev pub edgesOn : ℕ → List (ℕ × Vertex)
+  edgesOn a = map (successor A B b v a) (targets A (v .left) a)
+
+  abbrev pub edgesFromLetter : ℕ → ℕ → List (ℕ × Vertex)
+  edgesFromLetter k a = flatMap edgesOn (table (λ c. c) (k - a) a)
+
+  edges-all : successors A B b v ≡ edgesFromLetter (A .letters) 0
+  unfolding successors
+  edges-all = ap (λ (n : ℕ). flatMap edgesOn (table (λ c. c) n 0)) (sym (sub-zero (A .letters)))
+
+  edges-more : (k a : ℕ) → a < k → edgesFromLetter k a ≡ edgesOn a ++ edgesFromLetter k (a + 1)
+  unfolding flatMap table
+  edges-more k a h = let q : k - a ≡ suc (k - (a + 1)) = omega arith in rw (q, add-one)
+
+  edges-none : (k a : ℕ) → k ≤ a → edgesFromLetter k a ≡ []
+  unfolding flatMap table
+  edges-none k a h = let q : k - a ≡ 0 = omega arith in rw q
+
+-- the answer r and the work buffer are those of the successors on letter a
+abbrev pub LetterDone : Rules → List ℕ → List ℕ → Vertex → ℕ → ℕ → List ℕ → ℕ → List ℕ → Walked → Type 0
+LetterDone rules lefts masks v a p before n work r =
+    (A B : Automaton) (b : ℕ) → RulesOf rules lefts masks A B b
+    → Becomes before n work r (λ S w. discoverAll (lagGraph A B b) (below S) p w (edgesOn A B b v a))
+
+module _ (rules : Rules) (lefts masks : List ℕ) (v : Vertex) (a p : ℕ) (work : List ℕ) (m : ℕ) where
+  -- by the step of the vertex and its targets
+  pub letter-done : (step : Step) → step .letter ≡ a → a < rules .letters
+      → (lower other : Bool)
+      → ((A : Automaton) → Side (rules .left) lefts A → Needed lower true A (v .left) a × Needed other false A (v .left) a)
+      → ((A B : Automaton) (b k : ℕ) → rules .top ≡ b + 1 → a < k → RightSide (rules .right) masks (rules .states) k B
+      → Needed lower true A (v .left) a → Needed other false A (v .left) a → StepOf step A B b v)
+      → (work′ : List ℕ) (r : Walked) → TargetsDone (rules .left) lefts step p work m work′ r
+      → LetterDone rules lefts masks v a p work m work′ r
+  letter-done step e within lower other needs steps work′ r seen A B b R =
+      let n = needs A (R .left) in
+      subst (λ (c : ℕ). Becomes work m work′ r (λ S w. discoverAll (lagGraph A B b) (below S) p w (edgesOn A B b v c))) e
+      (seen A B b v (R .left) (steps A B b (rules .letters) (R .top-is) within (R .right) (n .0) (n .1)))
+
+  -- where the left state has no target there is no successor
+  pub letter-none : v .left < maxStates → a < maxLetters → nextFrom (transitionIn lefts (v .left) a) maxStates 0 ≡ maxStates
+      → LetterDone rules lefts masks v a p work m work (Going m)
+  letter-none h l e A B b R start ns S =
+      subst (λ (es : List (ℕ × Vertex)). Represents work (Going m) start
+      (discoverAll (lagGraph A B b) (below (slotCount (length start))) p (going ns) es))
+      (sym (ap (map (successor A B b v a)) (no-targets A lefts (R .left .transitions-are) (R .left .in-range) (v .left) a h l e))) S
+
+-- Before letter a: the successors on the letters from a on, discovered, expand place p.
+abbrev pub LettersToGo : Rules → List ℕ → List ℕ → Vertex → ℕ → List ℕ → ℕ → List ℕ → ℕ → ℕ → Type 0
+LettersToGo rules lefts masks v p before n work m a =
+    (A B : Automaton) (b : ℕ) → RulesOf rules lefts masks A B b
+    → (start : List ℕ) (ns : List (Node Vertex)) → Represents before (Going n) start (going ns)
+    → FoldLoops A B b p work m start (edgesFromLetter A B b v (rules .letters) a)
+    (expand (lagGraph A B b) (below (slotCount (length start))) p (going ns))
+
+abbrev pub PlaceDone : Rules → List ℕ → List ℕ → ℕ → List ℕ → ℕ → List ℕ → Walked → Type 0
+PlaceDone rules lefts masks p before n work r =
+    (A B : Automaton) (b : ℕ) → RulesOf rules lefts masks A B b
+    → Becomes before n work r (λ S. expand (lagGraph A B b) (below S) p)
+
+module _ (rules : Rules) (lefts masks : List ℕ) (v : Vertex) (p : ℕ) (before : List ℕ) (n : ℕ) where
+  pub letters-start : v ≡ vertexAt before p → p < n → LettersToGo rules lefts masks v p before n before n 0
+  letters-start e h A B b R start ns S = (ns, S, ap (discoverAll (lagGraph A B b) (below (slotCount (length start))) p (going ns)) (sym edges))
+    where
+      count : n ≡ length ns
+      count = let q = S .answer in cc
+
+      edges : successorsAt (lagGraph A B b) ns p ≡ edgesFromLetter A B b v (rules .letters) 0
+      edges =
+          successors-in (lagGraph A B b) ns p (omega (arith, count))
+          ∙ ap (successors A B b) (sym (slot-represented A B b before (Going n) start (going ns) S p (omega (arith, count)) .0) ∙ sym e)
+          ∙ edges-all A B b v
+          ∙ ap (λ (k : ℕ). edgesFromLetter A B b v k 0) (sym (R .letters-are))
+
+  module _ (work : List ℕ) (m a : ℕ) (O : LettersToGo rules lefts masks v p before n work m a) where
+    pub letters-end : rules .letters ≤ a → PlaceDone rules lefts masks p before n work (Going m)
+    letters-end h A B b R start ns S =
+        onward-end A B b p work m start (edgesFromLetter A B b v (rules .letters) a) _ (O A B b R start ns S)
+        (edges-none A B b v (rules .letters) a h)
+
+    module _ (h : a < rules .letters) (work′ : List ℕ) (r : Walked) (seen : LetterDone rules lefts masks v a p work m work′ r) where
+      pub letters-stop : Stops r → PlaceDone rules lefts masks p before n work′ r
+      letters-stop k A B b R start ns S =
+          onward-stop A B b p work m work′ r start (edgesOn A B b v a) (edgesFromLetter A B b v (rules .letters) (a + 1))
+          (edgesFromLetter A B b v (rules .letters) a) _ (O A B b R start ns S) (edges-more A B b v (rules .letters) a h) (seen A B b R) k
+
+      pub letters-next : (x : ℕ) → r ≡ Going x → LettersToGo rules lefts masks v p before n work′ x (a + 1)
+      letters-next x q A B b R start ns S =
+          onward-next A B b p work m work′ r start (edgesOn A B b v a) (edgesFromLetter A B b v (rules .letters) (a + 1))
+          (edgesFromLetter A B b v (rules .letters) a) _ (O A B b R start ns S) (edges-more A B b v (rules .letters) a h) (seen A B b R) x q
+
+-- All places.
+
+-- Before place p is expanded: the places from p on, expanded, make the walk.
+abbrev pub PlacesToGo : Rules → List ℕ → List ℕ → List ℕ → ℕ → List ℕ → ℕ → ℕ → Type 0
+PlacesToGo rules lefts masks before n work m p =
+    (A B : Automaton) (b : ℕ) → RulesOf rules lefts masks A B b
+    → (start : List ℕ) (ns : List (Node Vertex)) → Represents before (Going n) start (going ns)
+    → (ms : List (Node Vertex)) × Represents work (Going m) start (going ms)
+    × (expandAll (lagGraph A B b) (below (slotCount (length start))) (slotCount (length start) - p) p (going ms)
+    ≡ expandAll (lagGraph A B b) (below (slotCount (length start))) (slotCount (length start)) 0 (going ns))
+
+abbrev pub PlacesDone : Rules → List ℕ → List ℕ → List ℕ → ℕ → List ℕ → Walked → Type 0
+PlacesDone rules lefts masks before n work r =
+    (A B : Automaton) (b : ℕ) → RulesOf rules lefts masks A B b
+    → Becomes before n work r (λ S. expandAll (lagGraph A B b) (below S) S 0)
+
+stopped-expand-all : (A B : Automaton) (b S k p : ℕ) (work : List ℕ) (r : Walked) (start : List ℕ) (w : Walk Vertex) → Stops r
+    → Represents work r start w
+    → expandAll (lagGraph A B b) (below S) k p w ≡ w
+stopped-expand-all A B b S k p work r start (going ns) t s = absurd (subst Stops (s .answer) t)
+stopped-expand-all A B b S k p work r start (ended ns n) t s = expand-all-ended (lagGraph A B b) (below S) k p ns n
+stopped-expand-all A B b S k p work r start (full ns) t s = expand-all-full (lagGraph A B b) (below S) k p ns
+
+module _ (rules : Rules) (lefts masks before : List ℕ) (n : ℕ) where
+  pub expand-all-start : PlacesToGo rules lefts masks before n before n 0
+  expand-all-start A B b R start ns S = (ns, S, rw (sub-zero (slotCount (length start))))
+
+  module _ (work : List ℕ) (m p : ℕ) (O : PlacesToGo rules lefts masks before n work m p) where
+    pub expand-all-end : m ≤ p → PlacesDone rules lefts masks before n work (Going m)
+    expand-all-end h A B b R start ns S =
+        let o = O A B b R start ns S in
+        let k = slotCount (length start) in
+        let count : m ≡ length (o .0) = let q = o .1 .answer in cc in
+        subst (λ (w : Walk Vertex). Represents work (Going m) start w)
+        (sym (expand-all-past (lagGraph A B b) (below k) (k - p) p (o .0) (omega arith)) ∙ o .2) (o .1)
+
+    module _ (h : p < m) (work′ : List ℕ) (r : Walked) (seen : PlaceDone rules lefts masks p work m work′ r) where
+      one-expand : (A B : Automaton) (b S : ℕ) (w : Walk Vertex) → p < S
+          → expandAll (lagGraph A B b) (below S) (S - p) p w ≡ expandAll (lagGraph A B b) (below S) (S - (p + 1)) (p + 1)
+          (expand (lagGraph A B b) (below S) p w)
+      one-expand A B b S w l = let q : S - p ≡ suc (S - (p + 1)) = omega arith in rw (q, add-one)
+
+      module _ (A B : Automaton) (b : ℕ) (R : RulesOf rules lefts masks A B b) (start : List ℕ) (ns : List (Node Vertex))
+          (S : Represents before (Going n) start (going ns)) where
+        abbrev slots : ℕ
+        slots = slotCount (length start)
+
+        abbrev so-far : List (Node Vertex)
+        so-far = O A B b R start ns S .0
+
+        after : Represents work′ r start (expand (lagGraph A B b) (below slots) p (going so-far))
+        after = seen A B b R start so-far (O A B b R start ns S .1)
+
+        whole : expandAll (lagGraph A B b) (below slots) (slots - (p + 1)) (p + 1) (expand (lagGraph A B b) (below slots) p (going so-far))
+            ≡ expandAll (lagGraph A B b) (below slots) slots 0 (going ns)
+        whole =
+            let o = O A B b R start ns S in
+            let k = o .1 .room in
+            let count : m ≡ length so-far = let q = o .1 .answer in cc in
+            sym (one-expand A B b slots (going so-far) (omega arith)) ∙ o .2
+
+      pub expand-all-stop : Stops r → PlacesDone rules lefts masks before n work′ r
+      expand-all-stop t A B b R start ns S =
+          let k = slotCount (length start) in
+          let w = expand (lagGraph A B b) (below k) p (going (so-far A B b R start ns S)) in
+          let d = after A B b R start ns S in
+          subst (λ (x : Walk Vertex). Represents work′ r start x)
+          (sym (stopped-expand-all A B b k (k - (p + 1)) (p + 1) work′ r start w t d) ∙ whole A B b R start ns S) d
+
+      pub expand-all-next : (x : ℕ) → r ≡ Going x → PlacesToGo rules lefts masks before n work′ x (p + 1)
+      expand-all-next x e A B b R start ns S =
+          let k = slotCount (length start) in
+          let w = expand (lagGraph A B b) (below k) p (going (so-far A B b R start ns S)) in
+          let g = represented-going work′ r x start w e (after A B b R start ns S) in
+          (g .0, g .2, ap (expandAll (lagGraph A B b) (below k) (k - (p + 1)) (p + 1)) (sym (g .1)) ∙ whole A B b R start ns S)
+
+-- The walk: the initial vertex, and all places.
+
+module _ (A B : Automaton) (b : ℕ) (first : Vertex) (is-initial : first ≡ initialVertex A B b) (work work′ : List ℕ) (r : Walked)
+    (seen : (A B : Automaton) (b : ℕ) → Becomes work 0 work′ r
+    (λ S w. discover (lagGraph A B b) (below S) noParent w (noLetter, first))) where
+  began : Represents work′ r work (begin (lagGraph A B b) (below (slotCount (length work))))
+  began =
+      subst (λ (v : Vertex). Represents work′ r work (discover (lagGraph A B b) (below (slotCount (length work))) noParent (going [])
+      (noLetter, v)))
+      is-initial (seen A B b work [] (represented-none work))
+
+  pub walk-stop : Stops r → Represents work′ r work (walkOf A B b (slotCount (length work)))
+  unfolding walkOf
+  walk-stop t =
+      let S = slotCount (length work) in
+      subst (λ (w : Walk Vertex). Represents work′ r work w)
+      (sym (stopped-expand-all A B b S S 0 work′ r work (begin (lagGraph A B b) (below S)) t began)) began
+
+  pub walk-on : (n : ℕ) → r ≡ Going n → (rules : Rules) (lefts masks : List ℕ) → RulesOf rules lefts masks A B b
+      → (work″ : List ℕ) (r′ : Walked) → PlacesDone rules lefts masks work′ n work″ r′
+      → Represents work″ r′ work (walkOf A B b (slotCount (length work)))
+  unfolding walkOf
+  walk-on n e rules lefts masks R work″ r′ done =
+      let S = slotCount (length work) in
+      let g = represented-going work′ r n work (begin (lagGraph A B b) (below S)) e began in
+      subst (λ (w : Walk Vertex). Represents work″ r′ work (expandAll (lagGraph A B b) (below S) S 0 w)) (sym (g .1))
+      (done A B b R work (g .0) (g .2))
