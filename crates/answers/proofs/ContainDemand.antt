@@ -2,8 +2,8 @@
 use mathlib.Core.Path.{_≡_, refl, sym, ap, _∙_}
 use mathlib.Core.Bool.{Bool, true, false, cond, not}
 use mathlib.Core.List.{List, [], _∷_, _++_}
-use Prim.Native.Nat.{ℕ, suc}
-use native.Mathlib.Nat.{lt-of-not-le, le-of-suc-le-suc, not-suc-le-zero}
+use Prim.Native.Nat.{ℕ}
+use native.Mathlib.Nat.{lt-of-not-le}
 use native.Mathlib.Omega.{arith}
 use borrow.Author.Tests.{leb-false}
 use lib.Dec.{eqb, leb, ltb}
@@ -16,10 +16,9 @@ use Rattle.format.proofs.FileRefusals.{file-reads-as}
 use Rattle.deadstates.specs.DeadEnds.{hasDead}
 use Rattle.slots.specs.declared.Vertex.{Vertex}
 use Rattle.slots.specs.Slots.{slotCount}
-use Rattle.graph.specs.Discovery.{Graph, Node, Walk, going, ended, full, nodesOf}
+use Rattle.graph.specs.Discovery.{Node, Walk, going, ended, full, nodesOf}
 use Rattle.graph.specs.LagGraph.{maxBound, lagGraph}
 use Rattle.graph.specs.Walks.{walkOf, workAfter, wordOf, NeedsMore}
-use Rattle.graph.proofs.Discoveries.{Extends}
 use Rattle.graph.proofs.WalkTheorem.{walk-full, walk-full-front}
 use Rattle.graph.proofs.ListExists.{list-exists}
 use Rattle.answers.specs.declared.Outcome.the-variants.{Compared}
@@ -32,15 +31,6 @@ use Rattle.answers.proofs.WalkRows.{whole-of, final-of}
 use Rattle.answers.proofs.ContainTable.{contain-table}
 use Rattle.answers.proofs.ContainAnswers.{contain-numbers}
 
--- a list that another one extends is its front part
-extends-front : (G : Graph) (ns ms : List (Node (G .Vertices))) → Extends G ns ms → take (length ns) ms ≡ ns
-extends-front G [] ms x = refl
-extends-front G (n ∷ ns) [] x = absurd (not-suc-le-zero (x .longer))
-extends-front G (n ∷ ns) (m ∷ ms) x =
-    let h : m ≡ n = x .same 0 (omega arith) in
-    let t = extends-front G ns ms (record { longer = le-of-suc-le-suc (x .longer); same = λ i l. x .same (suc i) (omega arith) }) in
-    cc
-
 -- the front of the discovery list stands in the slots after a walk that is full
 pub full-front : (A B : Automaton) (b S : ℕ) → InRange A → (before : List ℕ) (ns : List (Node Vertex)) → walkOf A B b S ≡ full ns
     → FrontSlots A B b S before (workAfter before (full ns))
@@ -48,12 +38,11 @@ unfolding workAfter NeedsMore
 full-front A B b S r before ns e =
     let l = list-exists A B b (r .initial-below) in
     let w = walk-full A B b S ns e in
-    let x = walk-full-front A B b S ns e (l .0) (l .1) in
     record {
       list = l .0;
       is-list = l .1;
       longer = lt-of-not-le (λ h. w .0 (l .0) (record { list = l .1; room = h }));
-      slots = ap (written before) (sym (extends-front (lagGraph A B b) ns (nodesOf (l .0)) x) ∙ ap (λ (k : ℕ). take k (nodesOf (l .0))) (w .1));
+      slots = ap (written before) (walk-full-front A B b S ns e (l .0) (l .1));
     }
 
 module _ (f g : List ℕ) (b : ℕ) (work word : List ℕ) where

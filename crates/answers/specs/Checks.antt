@@ -6,7 +6,8 @@
 --   None rows      no row's condition holds
 --   At k rows x    the row at place k, counted from 0, has the answer x and its condition holds
 --   onRead         what follows a file: by the refusal's number, or by the automaton
--- Assumes nothing.
+-- Nothing settles these: they are how a table is read. `contain-table`, `open-table`, `offer-table` and `verdict-table` are stated in them. Assumes
+-- nothing.
 use mathlib.Core.Path.{_≡_}
 use mathlib.Core.List.{List, [], _∷_}
 use mathlib.Core.Logic.{_⊎_}

@@ -8,7 +8,7 @@
 --   containing       the whole call: the first file, the second file, and their automata
 --   outcomeOf, workOf, wordBuffer   its three parts
 --   partLength       the length of the part of the word buffer that is handed back: the word, an empty part where there is none
--- Difference by `contain-demand-1` and `demand-2`. Assumes nothing.
+-- Shown by `contain-demand-1` and `demand-2`. Assumes nothing.
 use mathlib.Core.Bool.{Bool, cond, not}
 use mathlib.Core.List.{List}
 use Prim.Native.Nat.{ℕ}

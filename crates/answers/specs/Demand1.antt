@@ -5,7 +5,7 @@
 --   written before ns       the slots of the vertices ns, then the bytes of `before`
 --   FrontSlots              refusal 10's slots: the first S vertices of the discovery list, which is longer
 --   Leaves x work' word'    the buffers after the answer x
--- Difference by `contain-demand-1`. Assumes nothing.
+-- Shown by `contain-demand-1`. Assumes nothing.
 use mathlib.Core.Path.{_≡_}
 use mathlib.Core.List.{List, _++_}
 use mathlib.Core.Logic.{_↔_}

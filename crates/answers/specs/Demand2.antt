@@ -4,7 +4,7 @@
 --   Difference               what "differs", with place i and a word of so many letters, comes with: the final vertex at place i of the list,
 --                       and its word, which stands in front in the word buffer, has that length and shows the difference
 --   Demand2             the claim about one call
--- Difference by `demand-2`. Assumes nothing.
+-- Shown by `demand-2`. Assumes nothing.
 use mathlib.Core.Path.{_≡_}
 use mathlib.Core.List.{List}
 use mathlib.Core.Logic.{_⊎_, _↔_}

@@ -5,7 +5,7 @@
 --   refuses n file C   the row of refusal n, with its file, under the condition C
 --   containRows        the rows: 1-5 of the first file, 1-5 of the second, 8, 7, 6 of the first, 6 of the second, 10, 11; then the outcomes
 --   containPlace x     the place of the row of x, counted from 0
--- Difference by `contain-table` and `contain-answer`. Assumes nothing.
+-- Shown by `contain-table` and `contain-answer`. Assumes nothing.
 use mathlib.Core.Path.{_≡_}
 use mathlib.Core.Bool.{cond}
 use mathlib.Core.Logic.{_≢_}

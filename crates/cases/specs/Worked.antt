@@ -1,5 +1,5 @@
 -- The worked automata F, G, H and J as files (01, "Worked automata"), written record by record: number of states, number of letters, initial state,
--- then the accepting states and the transitions (from, letter, to). `Cases` has what is shown of them. Assumes nothing.
+-- then the accepting states and the transitions (from, letter, to). Shown by `proved-cases`, to the table in `Cases`. Assumes nothing.
 use mathlib.Core.List.{List, [], _∷_}
 use Prim.Native.Nat.{ℕ}
 use Rattle.format.specs.Writing.{accepting-item, transition-item, fileBytes}

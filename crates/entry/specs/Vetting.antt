@@ -1,5 +1,5 @@
 -- What the checks of open or offer give, as the code holds it: a refusal's number, or 0 and the file's automaton; with a refusal the
--- automaton field holds zeros, as it does in the reader's struct. Assumes nothing.
+-- automaton field holds zeros, as it does in the reader's struct. Nothing settles it: only contracts between functions name it. Assumes nothing.
 use Rattle.automaton.specs.Automata.{bare}
 use Rattle.entry.specs.declared.Checked.{Checked}
 use Rattle.history.specs.Opens.{Vetted, stopped, passed}

@@ -4,7 +4,7 @@
 --   marked s i m   the mark 41 m stands at position i
 --   headerMark, acceptingMark, transitionMark, endMark   the second bytes of the four marks
 --   HeaderMark m fields, RecordMark m fields   41 m is the mark of the header, or of a record past it, with so many fields
--- Assumes nothing.
+-- Shown by `small-1` to `small-6` and `worked-h`, byte for byte on small files. Assumes nothing.
 use mathlib.Core.Bool.{Bool, _&&_}
 use mathlib.Core.List.{List}
 use Prim.Native.Nat.{ℕ, _+_}

@@ -5,19 +5,19 @@ use mathlib.Core.Bool.{Bool, true, false, cond}
 use mathlib.Core.Logic.{_⊎_, inl, inr, ⊎-elim}
 use mathlib.Core.List.{List, [], _∷_, _++_}
 use Prim.Native.Nat.{ℕ, zero, suc, _+_, _≤_, _<_}
-use native.Mathlib.Nat.{zero-add, add-zero}
+use native.Mathlib.Nat.{zero-add, add-zero, le-of-suc-le-suc, not-suc-le-zero}
 use native.Mathlib.Omega.{arith}
 use lib.Dec.{ltb}
-use lib.ListN.{length, length-append, List·getD-append}
+use lib.ListN.{length, take, length-append, List·getD-append}
 use lib.Seq.{getD-append-seam}
 use borrow.Author.Tests.{ltb-true, ltb-false}
 use Rattle.graph.specs.Discovery.{Graph, Node, Walk, going, ended, full, nodesOf, node, listed, discover, discoverAll, successorsAt, expand, expandAll, root, at}
 
--- the four ways of a successor: the vertex is listed, it is final, it takes a slot, or it finds none
 -- what a successor comes to, by the three tests: listed, final, a slot free
 abbrev pub put : {X : Type 0} → Bool → Bool → Bool → List (Node X) → Node X → Walk X
 put a b c ns n = cond a (going ns) (cond b (ended ns n) (cond c (going (ns ++ n ∷ [])) (full ns)))
 
+-- the four ways of a successor: the vertex is listed, it is final, it takes a slot, or it finds none
 pub data DiscoverCase (G : Graph) (free : ℕ → Bool) (p : ℕ) (ns : List (Node (G .Vertices))) (e : ℕ × G .Vertices)
     : Walk (G .Vertices) → Type 0 where
   known : listed G (e .1) ns ≡ true → DiscoverCase G free p ns e (going ns)
@@ -30,6 +30,15 @@ pub data DiscoverCase (G : Graph) (free : ℕ → Bool) (p : ℕ) (ns : List (No
 pub record Extends (G : Graph) (ns ms : List (Node (G .Vertices))) : Type 0 where
   pub longer : length ns ≤ length ms
   pub same : (i : ℕ) → i < length ns → at G ms i ≡ at G ns i
+
+-- a list that another one extends is its front part
+pub extends-front : (G : Graph) (ns ms : List (Node (G .Vertices))) → Extends G ns ms → take (length ns) ms ≡ ns
+extends-front G [] ms x = refl
+extends-front G (n ∷ ns) [] x = absurd (not-suc-le-zero (x .longer))
+extends-front G (n ∷ ns) (m ∷ ms) x =
+    let h : m ≡ n = x .same 0 (omega arith) in
+    let t = extends-front G ns ms (record { longer = le-of-suc-le-suc (x .longer); same = λ i l. x .same (suc i) (omega arith) }) in
+    cc
 
 pub lt-or-le : (i n : ℕ) → (i < n) ⊎ (n ≤ i)
 lt-or-le i n = go (ltb i n) refl

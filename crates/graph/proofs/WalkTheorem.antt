@@ -8,7 +8,7 @@ use mathlib.Core.List.{List, [], _∷_, _++_}
 use Prim.Native.Nat.{ℕ, _≤_, _<_}
 use native.Mathlib.Omega.{arith}
 use lib.Dec.{T}
-use lib.ListN.{length}
+use lib.ListN.{length, take}
 use Rattle.automaton.specs.declared.Automaton.{Automaton}
 use Rattle.automaton.specs.Automata.{maxStates}
 use Rattle.runs.specs.Runs.{Run, Prefix}
@@ -22,7 +22,7 @@ use Rattle.slots.proofs.Vertices.{same-vertex-eq, same-vertex-refl}
 use Rattle.graph.specs.Discovery.{Node, Walk, going, ended, full, nodesOf, DiscoveryList, all, final, at}
 use Rattle.graph.specs.LagGraph.{lagGraph}
 use Rattle.graph.specs.Walks.{walkOf, wordOf, Fits, NeedsMore}
-use Rattle.graph.proofs.Discoveries.{Extends, length-snoc, lt-or-le}
+use Rattle.graph.proofs.Discoveries.{extends-front, length-snoc, lt-or-le}
 use Rattle.graph.proofs.Parents.{Linked}
 use Rattle.graph.specs.Discovery.{withFinal}
 use Rattle.graph.proofs.Capacity.{walk-going-iff, walk-ended-iff, walk-full-more}
@@ -64,9 +64,11 @@ module _ (A B : Automaton) (b S : ℕ) where
 
   -- refusal 10's slots are the first S vertices of the list
   pub walk-full-front : (ns : List (Node Vertex)) → walkOf A B b S ≡ full ns → (w : Walk Vertex) → DiscoveryList (lagGraph A B b) w
-      → Extends (lagGraph A B b) ns (nodesOf w)
+      → ns ≡ take S (nodesOf w)
   unfolding walkOf
-  walk-full-front ns e w d = walk-full-more (lagGraph A B b) S ns e .1 w d .1
+  walk-full-front ns e w d =
+      let f = walk-full-more (lagGraph A B b) S ns e in
+      sym (extends-front (lagGraph A B b) ns (nodesOf w) (f .1 w d .1)) ∙ ap (λ (k : ℕ). take k (nodesOf w)) (f .0)
 
   -- refusal 10's walk exactly if the list does not fit
   pub walk-full-iff : ((ns : List (Node Vertex)) × (walkOf A B b S ≡ full ns)) ↔ NeedsMore A B b S

@@ -11,7 +11,7 @@
 --   Adds es c B          the call c adds the edition B to the editions es
 --   Account es cs fs     from the editions es the calls cs make the editions fs
 --   accounted E es       the entry of the editions es: that of the last one, or E where there are none
--- Difference by `demand-3`. Assumes nothing.
+-- Shown by `demand-3`. Assumes nothing.
 use mathlib.Core.Path.{_≡_}
 use mathlib.Core.Bool.{true}
 use mathlib.Core.List.{List, [], _∷_, _++_}

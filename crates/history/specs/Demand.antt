@@ -4,7 +4,7 @@
 --   ListClaim        the claim about one list of calls from an empty entry
 --   OfferClaim       the claim about one offer on any entry
 --   Demand3          both, for every list and every offer
--- Difference by `demand-3`. Assumes nothing.
+-- Shown by `demand-3`. Assumes nothing.
 use mathlib.Core.Path.{_≡_}
 use mathlib.Core.Bool.{true, false, cond}
 use mathlib.Core.List.{List, [], _∷_, _++_, List·Memᴰ}

@@ -4,7 +4,7 @@
 --                      at most 183,071
 --   malformed E        condition 9, computed; of an empty entry no other field is looked at
 --   Smaller, smaller   one automaton is smaller than another: by its states, then by its transitions; said and computed
--- Difference by `malformed-iff` and `smaller-iff`. Assumes nothing.
+-- Shown by `malformed-iff` and `smaller-iff`. Assumes nothing.
 use mathlib.Core.Path.{_≡_}
 use mathlib.Core.Bool.{Bool, _&&_, _||_, not}
 use mathlib.Core.Logic.{_⊎_}

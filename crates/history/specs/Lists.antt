@@ -3,7 +3,7 @@
 --   callTaken      the call is an offer that is answered "taken"
 --   entryAfter     the entry after a list of calls
 --   takenOffers    how many calls of the list are answered "taken"
--- Difference by `demand-3`. Assumes nothing.
+-- Shown by `demand-3`. Assumes nothing.
 use mathlib.Core.Bool.{Bool, true, false}
 use mathlib.Core.List.{List, [], _∷_}
 use Prim.Native.Nat.{ℕ, _+_}

@@ -3,7 +3,7 @@
 --   OfferListed S room x   x can occur with S slots and room for so many letters; a word is no longer than the place of its final vertex
 --   OfferLeaves x ..       entry, work and word after the answer x; H is the held automaton, B the offer. Both walks write from the
 --                          start of the work buffer, so the back walk's slots stand over the forward walk's
--- Difference by `offer-demand-1`. Assumes nothing.
+-- Shown by `offer-demand-1`. Assumes nothing.
 use mathlib.Core.Path.{_≡_}
 use mathlib.Core.List.{List, _++_}
 use mathlib.Core.Logic.{_⊎_, _↔_}

@@ -7,7 +7,7 @@
 --   Offer            what offer gives: its answer, the entry, and the two buffers afterwards
 --   offerOf          the whole call
 --   partLength       the length of the part of the word buffer that is handed back: the word of forward or back, else an empty part
--- Difference by `offer-demand-1`, `forward-shows`, `back-shows` and `demand-3`. Assumes nothing.
+-- Shown by `offer-demand-1`, `forward-shows`, `back-shows` and `demand-3`. Assumes nothing.
 use mathlib.Core.Bool.{Bool, true, false, cond, _||_, not}
 use mathlib.Core.List.{List}
 use Prim.Native.Nat.{ℕ, _+_}

@@ -1,5 +1,5 @@
 -- Demand 1 of open (01, the table of refusals and "Entry, open, offer"): what it answers, the refusals that can occur, and the entry after
--- each answer. Difference by `open-demand-1`. Assumes nothing.
+-- each answer. Shown by `open-demand-1`. Assumes nothing.
 use mathlib.Core.Path.{_≡_}
 use mathlib.Core.List.{List}
 use mathlib.Core.Logic.{_↔_}

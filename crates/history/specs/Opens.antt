@@ -2,7 +2,7 @@
 --   Vetted         what the checks of open or offer give: a refusal's number, or the file's automaton
 --   firstEdition   the entry of an opened automaton
 --   openOf         the answer and the entry
--- Difference by `open-demand-1`. Assumes nothing.
+-- Shown by `open-demand-1`. Assumes nothing.
 use mathlib.Core.Bool.{true, cond}
 use mathlib.Core.List.{List}
 use Prim.Native.Nat.{ℕ}

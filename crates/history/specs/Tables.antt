@@ -7,7 +7,7 @@
 --   offerOutcomes     forward, back, taken
 --   verdictRows       9, 13, 15; then yes and no
 --   openPlace, offerPlace, verdictPlace   the place of an answer's row, counted from 0
--- Difference by `open-table`, `offer-table` and `verdict-table`. Assumes nothing.
+-- Shown by `open-table`, `offer-table` and `verdict-table`. Assumes nothing.
 use mathlib.Core.Path.{_≡_}
 use mathlib.Core.Bool.{true, false, cond}
 use mathlib.Core.Logic.{_⊎_, _≢_}

@@ -1,5 +1,5 @@
 -- Demand 1 of verdict (01, the table of refusals and "Verdict"): what it answers, and the refusals that can occur. It changes nothing.
--- Difference by `verdict-demand-1`. Assumes nothing.
+-- Shown by `verdict-demand-1`. Assumes nothing.
 use mathlib.Core.Path.{_≡_}
 use mathlib.Core.List.{List}
 use mathlib.Core.Logic.{_↔_}

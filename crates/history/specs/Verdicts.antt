@@ -3,7 +3,7 @@
 --   BadLasso        condition 15, said of the letter count k: the lengths of stem and loop, and letters that are not below k
 --   badLasso        the same, computed
 --   verdictOf       the answer
--- Difference by `verdict-demand-1` and `bad-lasso-iff`. Assumes nothing.
+-- Shown by `verdict-demand-1` and `bad-lasso-iff`. Assumes nothing.
 use mathlib.Core.Bool.{Bool, true, false, cond, _||_, not}
 use mathlib.Core.Logic.{_⊎_}
 use mathlib.Core.Path.{_≡_}

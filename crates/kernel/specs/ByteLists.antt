@@ -4,7 +4,7 @@
 --   bytesOf s es    the bytes that the account makes: those of the entry that holds the last edition; with no editions they are s still
 --   SameVerdicts    every verdict on the bytes t is the one on the entry as it was first opened
 --   BytesClaim      demand 3 of one list of calls on the bytes s
--- Difference by `demand-3-bytes`. Assumes nothing.
+-- Shown by `demand-3-bytes`. Assumes nothing.
 use mathlib.Core.Path.{_≡_}
 use mathlib.Core.Bool.{true, false}
 use mathlib.Core.List.{List, [], _∷_, _++_}

@@ -1,7 +1,7 @@
 -- Demand 1 of the calls that vendors make. Contain: that of the call, and its number. The calls on an entry's bytes: bytes that are no entry
 -- are condition 9 and nothing changes; on the bytes of an entry the call has demand 1 of open, offer or verdict, opened and taken alone
 -- write the entry, and the number is the answer's. Every number fits 64 bits and tells the whole answer: no two answers that can occur
--- have the same one. Difference by `contain-call-demand-1`, `entry-open-demand-1`, `entry-offer-demand-1` and `entry-verdict-demand-1`. Assumes
+-- have the same one. Shown by `contain-call-demand-1`, `entry-open-demand-1`, `entry-offer-demand-1` and `entry-verdict-demand-1`. Assumes
 -- nothing.
 use mathlib.Core.Path.{_≡_}
 use mathlib.Core.Bool.{true, false}

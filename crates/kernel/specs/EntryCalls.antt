@@ -4,7 +4,7 @@
 --   offerBytesNumber, offerBytes     offer's number, and the entry's bytes afterwards
 --   offerBytesWork, offerBytesWord   the work buffer and the word buffer after offer
 --   verdictBytesNumber               verdict's number
--- Difference by `entry-open-demand-1`, `entry-offer-demand-1` and `entry-verdict-demand-1`. Assumes nothing.
+-- Shown by `entry-open-demand-1`, `entry-offer-demand-1` and `entry-verdict-demand-1`. Assumes nothing.
 use mathlib.Core.Bool.{Bool, true, false, cond}
 use mathlib.Core.List.{List}
 use Prim.Native.Nat.{ℕ}

@@ -7,18 +7,8 @@ use Prim.Native.Nat.{ℕ}
 use Rattle.automaton.specs.Automata.{bare}
 use Rattle.history.specs.declared.Entry.{Entry}
 use Rattle.history.specs.declared.OfferAnswer.the-variants.{Taken, Back}
-use Rattle.report.specs.Line.{digits, decimal, percentSaved, fields, letters, offerLine}
-
--- halves go up
-pub percents : (percentSaved 4 3 ≡ 25) × (percentSaved 8 7 ≡ 13) × (percentSaved 8 5 ≡ 38) × (percentSaved 3 2 ≡ 33)
-    × (percentSaved 32 1 ≡ 97)
-unfolding percentSaved
-percents = (refl, refl, refl, refl, refl)
-
-pub decimals : (decimal 0 ≡ 0x30 ∷ []) × (decimal 10 ≡ 0x31 ∷ 0x30 ∷ [])
-    × (decimal 183071 ≡ 0x31 ∷ 0x38 ∷ 0x33 ∷ 0x30 ∷ 0x37 ∷ 0x31 ∷ [])
-unfolding decimal digits
-decimals = (refl, refl, refl)
+use Rattle.text.specs.Text.{digits, decimal, percentSaved, letters}
+use Rattle.report.specs.Line.{fields, offerLine}
 
 -- an entry with so many held and first states at an edition number
 abbrev entry : ℕ → ℕ → ℕ → Entry

@@ -8,8 +8,9 @@ use lib.ListN.{length, length-append}
 use Rattle.history.specs.declared.Entry.{Entry}
 use Rattle.history.specs.declared.OfferAnswer.{OfferAnswer}
 use Rattle.history.specs.declared.OfferAnswer.the-variants.{Taken, Forward, Back, Refused, NoSlots, NoRoom}
-use Rattle.report.specs.Line.{decimal, percentSaved, fields, letters, refusedLine, offerLine, lineRoom}
-use Rattle.report.proofs.Decimals.{decimal-length}
+use Rattle.text.specs.Text.{decimal, percentSaved, letters}
+use Rattle.report.specs.Line.{fields, refusedLine, offerLine, lineRoom}
+use Rattle.text.proofs.Decimals.{decimal-length}
 
 -- a number of a machine word
 abbrev pub Word : ℕ → Type 0

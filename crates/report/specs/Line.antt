@@ -1,8 +1,6 @@
 -- The line of an offer (01, "Listing"): the outcome's name, the edition number, the states held and those of the first edition, how many
 -- percent fewer that is, rounded with halves up, the counts of both walks, `-` for a walk that was not made, and for forward and back the
 -- word, a space before each letter. A refusal's line has its number alone. Byte 0A ends every line.
---   decimal n              the digits of n, highest first
---   percentSaved           of so many first states, so many are held: the percent saved, halves up
 --   offerLine E x w        the line of the answer x, with the entry E after the call and the letters w of the word
 --   refusedLine n          the line of refusal n
 --   lineRoom w             the bytes that are asked for a line with the letters w: a number takes at most 20, a letter and its space 4
@@ -10,32 +8,18 @@
 --                          nothing written where d has fewer
 --   lineLength m l d       the length that is answered: the line's, or 0 where nothing is written
 --   Lined m l d e n        the buffer d is e after the line l, and n is the length that is answered, which is within the buffer
--- Assumes nothing.
+-- Shown by `taken-line` and `back-line`, the lines that 01 prints, and by the contract of `offer_line`. Assumes nothing.
 use mathlib.Core.Path.{_≡_}
-use mathlib.Core.Bool.{Bool, true, false, cond}
+use mathlib.Core.Bool.{Bool, cond}
 use mathlib.Core.List.{List, [], _∷_, _++_}
-use Prim.Native.Nat.{ℕ, zero, suc, _+_, _-_, _*_, _/_, _%_, _≤_}
-use lib.Dec.{leb, ltb}
+use Prim.Native.Nat.{ℕ, _+_, _*_, _≤_}
+use lib.Dec.{leb}
 use lib.ListN.{length, drop}
 use Rattle.automaton.specs.declared.Automaton.{Automaton}
+use Rattle.text.specs.Text.{decimal, percentSaved, space, letters}
 use Rattle.history.specs.declared.Entry.{Entry}
 use Rattle.history.specs.declared.OfferAnswer.{OfferAnswer}
 use Rattle.history.specs.declared.OfferAnswer.the-variants.{Taken, Forward, Back, Refused, NoSlots, NoRoom}
-
--- at most k digits
-unfoldable pub digits : ℕ → ℕ → List ℕ
-digits zero n = []
-digits (suc k) n = elim (ltb n 10) [ true ↦ (0x30 + n) ∷ [] | false ↦ digits k (n / 10) ++ (0x30 + n % 10) ∷ [] ]
-
--- a number has no more digits than one more than itself
-unfoldable pub decimal : ℕ → List ℕ
-decimal n = digits (suc n) n
-
-unfoldable pub percentSaved : ℕ → ℕ → ℕ
-percentSaved first held = (200 * (first - held) + first) / (2 * first)
-
-abbrev pub space : List ℕ
-space = 0x20 ∷ []
 
 abbrev pub newline : List ℕ
 newline = 0x0a ∷ []
@@ -75,7 +59,7 @@ walksText = 0x20 ∷ 0x77 ∷ 0x61 ∷ 0x6c ∷ 0x6b ∷ 0x73 ∷ 0x20 ∷ []
 abbrev pub wordText : List ℕ
 wordText = 0x20 ∷ 0x77 ∷ 0x6f ∷ 0x72 ∷ 0x64 ∷ []
 
--- "`-` if not walked"
+-- for a walk that was not made
 abbrev pub noWalk : List ℕ
 noWalk = 0x2d ∷ []
 
@@ -87,11 +71,6 @@ fields E =
     ++ ofText ++ decimal (E .first)
     ++ savedText ++ decimal (percentSaved (E .first) (E .held .states))
     ++ walksText
-
--- the letters, each after a space
-unfoldable pub letters : List ℕ → List ℕ
-letters [] = []
-letters (a ∷ w) = space ++ decimal a ++ letters w
 
 unfoldable pub refusedLine : ℕ → List ℕ
 refusedLine n = refusedText ++ space ++ decimal n ++ newline

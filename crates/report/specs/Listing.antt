@@ -2,7 +2,7 @@
 -- it is `long`; then the first file is opened in a fresh entry and the other one offered with that byte as the bound, 65,520 bytes of
 -- work and 2,048 of word, and the line is that of the offer, or of the refusal that came up.
 --   listing input first offer   the line, of the bytes of standard input and of the two files
--- Summary by the contract of `listing_line`. Assumes nothing.
+-- Shown by the contract of `listing_line`. Assumes nothing.
 use mathlib.Core.Bool.{Bool, true, false, cond, _||_, not}
 use mathlib.Core.List.{List, [], _∷_, _++_}
 use Prim.Native.Nat.{ℕ}

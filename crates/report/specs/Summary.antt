@@ -1,6 +1,6 @@
 -- What the line shows of an entry.
 --   SummaryOf E s   s has the edition number, the held states and the first states of the entry E
--- Assumes nothing.
+-- Nothing settles it: only contracts between functions name it. Assumes nothing.
 use mathlib.Core.Path.{_≡_}
 use Rattle.history.specs.declared.Entry.{Entry}
 use Rattle.report.specs.declared.answer_lines.Summary.{Summary}

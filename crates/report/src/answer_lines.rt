@@ -2,16 +2,17 @@
 ghost use mathlib.Core.List.{List, _++_};
 ghost use Prim.Native.Nat.{ℕ, _+_, _*_, _≤_};
 ghost use lib.ListN.{length};
-ghost use Rattle.report.specs.Buffers.{Written};
-ghost use Rattle.report.specs.Line.{decimal, space, newline, wordText, fields, offerLine, refusedLine, lineRoom};
-ghost use Rattle.report.specs.Line.{letters as lettersText};
+ghost use Rattle.text.specs.Buffers.{Written};
+ghost use Rattle.text.specs.Text.{decimal, space};
+ghost use Rattle.report.specs.Line.{newline, wordText, fields, offerLine, refusedLine, lineRoom};
+ghost use Rattle.text.specs.Text.{letters as lettersText};
 ghost use Rattle.report.specs.Summary.{SummaryOf};
-use crate::parts::put_byte;
-use crate::parts::put_decimal;
-use crate::parts::put_field;
-use crate::parts::put_letters;
-use crate::parts::put_text;
-use crate::saved::percent_saved;
+use text::put_byte;
+use text::put_decimal;
+use text::put_field;
+use text::put_letters;
+use text::put_text;
+use text::percent_saved;
 use history::Entry;
 use history::OfferAnswer;
 

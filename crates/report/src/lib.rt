@@ -7,8 +7,6 @@ ghost use Rattle.report.specs.Line.{newline, usageText, longText, offerL
 
 mod answer_lines;
 mod listings;
-mod parts;
-mod saved;
 
 use answer_lines::Summary;
 use answer_lines::put_answer;
@@ -19,11 +17,6 @@ pub use listings::MAX_FILE;
 pub use listings::ROOM;
 pub use listings::fresh;
 pub use listings::listing_line;
-pub use parts::put_byte;
-pub use parts::put_decimal;
-pub use parts::put_letters;
-pub use parts::put_text;
-pub use saved::percent_saved;
 
 // Whether a buffer of so many bytes has the room that is asked for a line with so many letters.
 fn has_room(size: usize, letters: usize) -> bool

@@ -1,4 +1,4 @@
--- `verdict::loop_rows` meets its contract: the pairs of the empty word are word into those of the loop word, whose halves are the rows.
+-- `verdict::loop_rows` meets its contract: the pairs of the empty word are carried over to those of the loop word, whose halves are the rows.
 -- Assumes nothing.
 use mathlib.Core.Path.{_∙_}
 use native.Mathlib.Omega.{arith}

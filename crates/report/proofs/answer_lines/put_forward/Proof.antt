@@ -1,7 +1,8 @@
 -- `report::answer_lines::put_forward` meets its contract: the front, the back count and the word, one after another. Assumes nothing.
 use borrow.Author.Needs.{needs}
-use Rattle.report.specs.Line.{offerLine, letters, newline, wordText}
-use Rattle.report.proofs.Buffers.{written-append, written-three}
+use Rattle.text.specs.Text.{letters}
+use Rattle.report.specs.Line.{offerLine, newline, wordText}
+use Rattle.text.proofs.Buffers.{written-append, written-three}
 use Rattle.report.proofs.answer_lines.put_forward.Statement.{statement}
 use Rattle.report.proofs.answer_lines.put_forward.Tie as tie
 

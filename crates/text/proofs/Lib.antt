@@ -1,0 +1,6 @@
+-- Laws of bytes written into a buffer and of numbers as text.
+pub mod Buffers
+pub mod Decimals
+pub mod Letters
+pub mod Percent
+pub mod Examples
