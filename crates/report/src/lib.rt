@@ -13,6 +13,7 @@ use answer_lines::put_answer;
 use answer_lines::put_refused;
 use history::Entry;
 use history::OfferAnswer;
+use text::put_text;
 pub use listings::MAX_FILE;
 pub use listings::ROOM;
 pub use listings::fresh;
