@@ -1,10 +1,9 @@
 -- What contain's checks come to, check by check: each law says which part of the definition a passed or failed check leads to. Assumes nothing.
 use mathlib.Core.Path.{_≡_, refl, ap}
-use mathlib.Core.Bool.{Bool, true, false, not}
+use mathlib.Core.Bool.{true, false}
 use mathlib.Core.Logic.{_≢_}
 use mathlib.Core.List.{List}
 use Prim.Native.Nat.{ℕ, _≤_, _<_}
-use lib.Dec.{eqb, ltb}
 use borrow.Author.Tests.{lt-ltb, le-ltb, eq-eqb, ne-eqb}
 use Rattle.automaton.specs.declared.Automaton.{Automaton}
 use Rattle.format.specs.File.{refused, holds, readFile}

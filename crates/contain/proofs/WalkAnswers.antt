@@ -8,11 +8,11 @@ use Rattle.automaton.specs.declared.Automaton.{Automaton}
 use Rattle.automaton.specs.Automata.{InRange}
 use Rattle.slots.specs.declared.Vertex.{Vertex}
 use Rattle.slots.specs.Slots.{slotCount}
-use Rattle.walk.specs.declared.Walked.{Walked}
 use Rattle.walk.specs.declared.Walked.the-variants as answer
 use Rattle.graph.specs.Discovery.{Node, Walk, going, ended, full}
 use Rattle.graph.specs.Walks.{walkOf, workAfter, wordOf, wordAfter}
-use Rattle.walk.specs.Representation.{walkedOf, FoundFinal}
+use Rattle.walk.specs.Representation.{walkedOf}
+use Rattle.walk.proofs.FinalWords.{FoundFinal}
 use Rattle.answers.specs.declared.Comparison.the-variants.{Contained, NoSlots}
 use Rattle.answers.specs.Contain.{differing, comparison, walkWord}
 
@@ -46,7 +46,7 @@ module _ (S : ℕ) where
     full-outcome (ended ns m) n e = absurd (let z : _≡_ {A = ℕ} 0 1 = cc in omega arith)
     full-outcome (full ns) n e = (cc, refl)
 
--- what the word of the final vertex needs of the walk before it
+-- what reading the word of the final vertex needs of the walk before it
 module _ (A B : Automaton) (b : ℕ) (work after : List ℕ) (place letter parent : ℕ) where
   abbrev pub found-final : InRange A → after ≡ workAfter work (walkOf A B b (slotCount (length work)))
       → EndedAt (walkOf A B b (slotCount (length work))) place letter parent → FoundFinal after place letter parent

@@ -8,11 +8,11 @@ use Prim.Native.Nat.{ℕ, zero, suc, _+_, _*_, _/_, _%_, _^_, _-_, _≤_, _<_}
 use native.Mathlib.Nat.{lt-of-not-le, pow-le-pow-right, pow-suc, div-one, add-zero, zero-add, add-suc, suc-add}
 use native.Mathlib.Numerals.{add-one, one-add}
 use native.Mathlib.Omega.{arith}
-use lib.Bits.{bitAnd, bitOr, and-shr, and-mod, and-zero-l, and-lt, or-self, block-half, block-odd}
+use lib.Bits.{bitAnd, bitOr, and-shr, and-mod, and-zero-l, and-lt, and-le-l, or-self, block-half, block-odd}
 use lib.Dec.{T, eqb, ltb, ltb→lt, lt→ltb}
-use lib.ListN.{length, getD, set, take, drop, length-append, length-take, length-drop, List·getD-append}
+use lib.ListN.{length, getD, set, take, drop, length-append, length-take, length-drop, length-set, take-append-drop, List·getD-append}
 use lib.Arith.{lt-of-le-ne}
-use lib.Pow.{high, shr-shr}
+use lib.Pow.{high, shr-shr, shr-lt}
 use lib.Seq.{getD-set-same, getD-set-other, getD-append-add, getD-take, getD-drop, ext-getD}
 use borrow.Author.Tests.{ltb-true, ltb-false, lt-ltb, le-ltb, eq-eqb, ne-eqb, eqb-true, eqb-false}
 use Rattle.automaton.specs.Ranges.{some, table}
@@ -81,7 +81,7 @@ some-cut f g n m l e none =
 pub power-word : (q : ℕ) → q < 32 → 2 ^ q < 4294967296
 power-word q h = let l : 2 ^ q ≤ 2 ^ 31 = pow-le-pow-right (omega arith) {i = q} {j = 31} (omega arith) in omega arith
 
-pub bit-and : (w v j : ℕ) → bit (bitAnd w v) j ≡ (bit w j && bit v j)
+bit-and : (w v j : ℕ) → bit (bitAnd w v) j ≡ (bit w j && bit v j)
 bit-and w v j =
     ap (λ (x : ℕ). eqb x 1) (ap (λ (x : ℕ). x % 2) (and-shr w v j) ∙ and-mod (w / 2 ^ j) (v / 2 ^ j) 1)
     ∙ go (w / 2 ^ j % 2) (v / 2 ^ j % 2) (omega arith) (omega arith)
@@ -139,20 +139,76 @@ words-same w v e = same-bits (w + v) w v (below w (w + v) (omega arith)) (below 
     below : (x y : ℕ) → x ≤ y → x < 2 ^ y
     below x y h = let l : 2 ^ x ≤ 2 ^ y = pow-le-pow-right (omega arith) {i = x} {j = y} h in omega (arith, below-power x)
 
-pub word-has : (w : ℕ) → w < 2 ^ 32 → not (eqb w 0) ≡ some (bit w) 32 0
-word-has w h = go (some (bit w) 32 0) refl
+-- a number with a bit set is not 0
+bits-some : (n w : ℕ) → w < 2 ^ n → not (eqb w 0) ≡ some (bit w) n 0
+bits-some n w h = go (some (bit w) n 0) refl
   where
-    go : (c : Bool) → some (bit w) 32 0 ≡ c → not (eqb w 0) ≡ some (bit w) 32 0
+    go : (c : Bool) → some (bit w) n 0 ≡ c → not (eqb w 0) ≡ some (bit w) n 0
     go true e =
-        let x = some-below (bit w) 32 (is-true _ e) in
+        let x = some-below (bit w) n (is-true _ e) in
         ap not (ne-eqb w 0 (λ z. clash (T-true (bit w (x .0)) (x .2)) (ap (λ (n : ℕ). bit n (x .0)) z ∙ bit-zero (x .0)))) ∙ sym e
     go false e =
-        let none : (i : ℕ) → i < 32 → bit w i ≡ false = λ i l. not-T-false (bit w i) (λ t. subst T e (some-at (bit w) 32 i l t)) in
-        ap not (eq-eqb w 0 (bits-none 32 w h none)) ∙ sym e
+        let none : (i : ℕ) → i < n → bit w i ≡ false = λ i l. not-T-false (bit w i) (λ t. subst T e (some-at (bit w) n i l t)) in
+        ap not (eq-eqb w 0 (bits-none n w h none)) ∙ sym e
+
+pub word-has : (w : ℕ) → w < 2 ^ 32 → not (eqb w 0) ≡ some (bit w) 32 0
+word-has w h = bits-some 32 w h
 
 pub words-meet : (w v : ℕ) → w < 2 ^ 32 → v < 2 ^ 32 → not (eqb (bitAnd w v) 0) ≡ some (λ q. bit w q && bit v q) 32 0
 words-meet w v hw hv =
     word-has (bitAnd w v) (and-lt 32 w v hw hv) ∙ some-same (bit (bitAnd w v)) (λ q. bit w q && bit v q) 32 (λ q h. bit-and w v q)
+
+-- what two words have in common is the first of them exactly if the second lacks none of its members
+pub words-exceed : (w v : ℕ) → w < 2 ^ 32 → not (eqb (bitAnd w v) w) ≡ some (λ q. bit w q && not (bit v q)) 32 0
+words-exceed w v h = go (some (λ q. bit w q && not (bit v q)) 32 0) refl
+  where
+    lacked : (x y : Bool) → T (x && not y) → x ≡ (x && y) → ⊥
+    lacked true true t e = t
+    lacked true false t e = clash refl e
+    lacked false y t e = t
+
+    shared : (x y : Bool) → (T (x && not y) → ⊥) → (x && y) ≡ x
+    shared true true n = refl
+    shared true false n = absurd (n tt)
+    shared false y n = refl
+
+    go : (c : Bool) → some (λ q. bit w q && not (bit v q)) 32 0 ≡ c
+        → not (eqb (bitAnd w v) w) ≡ some (λ q. bit w q && not (bit v q)) 32 0
+    go true e =
+        let x = some-below (λ q. bit w q && not (bit v q)) 32 (is-true _ e) in
+        ap not (ne-eqb (bitAnd w v) w
+        (λ z. lacked (bit w (x .0)) (bit v (x .0)) (x .2) (ap (λ (n : ℕ). bit n (x .0)) (sym z) ∙ bit-and w v (x .0)))) ∙ sym e
+    go false e =
+        let same : bitAnd w v ≡ w =
+        same-bits 32 (bitAnd w v) w (omega (arith, and-le-l w v)) h
+        (λ i l. bit-and w v i ∙ shared (bit w i) (bit v i) (λ t. subst T e (some-at (λ q. bit w q && not (bit v q)) 32 i l t))) in
+        ap not (eq-eqb (bitAnd w v) w same) ∙ sym e
+
+some-from : (f : ℕ → Bool) (n i j : ℕ) → some f n (i + j) ≡ some (λ k. f (i + k)) n j
+unfolding some
+some-from f zero i j = refl
+some-from f (suc n) i j =
+    ap (λ (c : Bool). f (i + j) || c) (ap (some f n) (sym (add-suc i j)) ∙ some-from f n i (suc j))
+
+-- a word without its lowest bits has the members above them
+pub word-above : (w q : ℕ) → w < 2 ^ 32 → q < 32 → ltb 1 (w / 2 ^ q) ≡ some (bit w) (32 - (q + 1)) (q + 1)
+word-above w q h l =
+    let n = 32 - (q + 1) in
+    let all : n + (q + 1) ≡ 32 = omega arith in
+    let short : w / 2 ^ (q + 1) < 2 ^ n = shr-lt n (q + 1) (subst (λ (k : ℕ). w < 2 ^ k) (sym all) h) in
+    above (w / 2 ^ q)
+    ∙ ap (λ (x : ℕ). not (eqb x 0)) (shr-shr w q 1)
+    ∙ bits-some n (w / 2 ^ (q + 1)) short
+    ∙ some-same (bit (w / 2 ^ (q + 1))) (λ k. bit w (q + 1 + k)) n (λ k i. ap (λ (x : ℕ). eqb (x % 2) 1) (shr-shr w (q + 1) k))
+    ∙ sym (some-from (bit w) n (q + 1) 0)
+    ∙ ap (some (bit w) n) (add-zero (q + 1))
+  where
+    above : (x : ℕ) → ltb 1 x ≡ not (eqb (x / 2 ^ 1) 0)
+    above x = go (ltb 1 x) refl
+      where
+        go : (c : Bool) → ltb 1 x ≡ c → ltb 1 x ≡ not (eqb (x / 2 ^ 1) 0)
+        go true e = let g = ltb-true 1 x e in e ∙ sym (ap not (ne-eqb (x / 2) 0 (λ z. omega arith)))
+        go false e = let g = ltb-false 1 x e in e ∙ sym (ap not (eq-eqb (x / 2) 0 (omega arith)))
 
 -- a word with one byte more below it
 byte-more : (b w : ℕ) (bs : List ℕ) → b < 256 → ((q : ℕ) → bit w q ≡ member bs q) → (q : ℕ) → bit (w * 256 + b) q ≡ member (b ∷ bs) q
@@ -325,6 +381,75 @@ module _ (i n : ℕ) (f : ℕ → ℕ) (rows : List ℕ) (fits : i + n ≤ lengt
           front : (c : Bool) → ltb j i ≡ c → getD rows′ j 0 ≡ getD (changedRows i n f rows) j 0
           front true d = let less = ltb-true j i d in k .before j less ∙ sym (changed-before j less)
           front false d = back (ltb j (i + n)) refl (ltb-false j i d)
+
+-- no row changed, one more behind those that are, and more of them
+
+pub changed-none : (i : ℕ) (f : ℕ → ℕ) (rows : List ℕ) → changedRows i 0 f rows ≡ rows
+unfolding changedRows table
+changed-none i f rows = ap (λ (k : ℕ). take i rows ++ drop k rows) (add-zero i) ∙ take-append-drop i rows
+
+module _ (i n : ℕ) (f : ℕ → ℕ) (rows : List ℕ) where
+  pub changed-more : (w : ℕ) → i + n < length rows → w ≡ f n → set (changedRows i n f rows) (i + n) w ≡ changedRows i (n + 1) f rows
+  changed-more w h e =
+      rows-changed i (n + 1) f rows (omega arith) (set (changedRows i n f rows) (i + n) w)
+      (length-set (changedRows i n f rows) (i + n) w ∙ long)
+      record { before = λ j l. other j (λ d. omega arith) ∙ kept .before j l; after = λ j l. other j (λ d. omega arith) ∙ kept .after j (omega arith) }
+      (λ j l. go j l (ltb j n) refl)
+    where
+      long : length (changedRows i n f rows) ≡ length rows
+      long = changed-length i n f rows (omega arith)
+
+      kept : Kept i n rows (changedRows i n f rows)
+      kept = changed-kept i n f rows (omega arith)
+
+      other : (j : ℕ) → (j ≡ i + n → ⊥) → getD (set (changedRows i n f rows) (i + n) w) j 0 ≡ getD (changedRows i n f rows) j 0
+      other j d = getD-set-other (changedRows i n f rows) (i + n) j w 0 d
+
+      go : (j : ℕ) → j < n + 1 → (c : Bool) → ltb j n ≡ c → getD (set (changedRows i n f rows) (i + n) w) (i + j) 0 ≡ f j
+      go j l true d =
+          let less = ltb-true j n d in
+          other (i + j) (λ q. omega arith) ∙ changed-row i n f rows (omega arith) j less
+      go j l false d =
+          let more = ltb-false j n d in
+          let same : n ≡ j = omega arith in
+          subst (λ (k : ℕ). getD (set (changedRows i n f rows) (i + n) w) (i + k) 0 ≡ f k) same
+          (getD-set-same (changedRows i n f rows) (i + n) w 0 (omega (arith, long)) ∙ e)
+
+  pub changed-joined : (m : ℕ) (g : ℕ → ℕ) → i + n + m ≤ length rows → ((j : ℕ) → j < m → g j ≡ f (n + j))
+      → changedRows (i + n) m g (changedRows i n f rows) ≡ changedRows i (n + m) f rows
+  changed-joined m g h e =
+      rows-changed i (n + m) f rows (omega arith) (changedRows (i + n) m g first)
+      (changed-length (i + n) m g first (omega (arith, long)) ∙ long)
+      record {
+        before = λ j l. later .before j (omega arith) ∙ kept .before j l;
+        after = λ j l. later .after j (omega arith) ∙ kept .after j (omega arith);
+      }
+      (λ j l. go j l (ltb j n) refl)
+    where
+      first : List ℕ
+      first = changedRows i n f rows
+
+      long : length first ≡ length rows
+      long = changed-length i n f rows (omega arith)
+
+      kept : Kept i n rows first
+      kept = changed-kept i n f rows (omega arith)
+
+      later : Kept (i + n) m first (changedRows (i + n) m g first)
+      later = changed-kept (i + n) m g first (omega (arith, long))
+
+      go : (j : ℕ) → j < n + m → (c : Bool) → ltb j n ≡ c → getD (changedRows (i + n) m g first) (i + j) 0 ≡ f j
+      go j l true d =
+          let less = ltb-true j n d in
+          later .before (i + j) (omega arith) ∙ changed-row i n f rows (omega arith) j less
+      go j l false d =
+          let more = ltb-false j n d in
+          let place : i + n + (j - n) ≡ i + j = omega arith in
+          let own : n + (j - n) ≡ j = omega arith in
+          ap (λ (k : ℕ). getD (changedRows (i + n) m g first) k 0) (sym place)
+          ∙ changed-row (i + n) m g first (omega (arith, long)) (j - n) (omega arith)
+          ∙ e (j - n) (omega arith)
+          ∙ ap f own
 
 -- the first n rows, rewritten one after another
 pub first-rows-changed : (n : ℕ) (f : ℕ → ℕ) (rows rows′ : List ℕ) → n ≤ length rows → length rows′ ≡ length rows

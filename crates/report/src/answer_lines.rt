@@ -7,14 +7,14 @@ ghost use Rattle.text.specs.Text.{decimal, space};
 ghost use Rattle.report.specs.Line.{newline, wordText, fields, offerLine, refusedLine, lineRoom};
 ghost use Rattle.text.specs.Text.{letters as lettersText};
 ghost use Rattle.report.specs.Summary.{SummaryOf};
+use history::Entry;
+use history::OfferAnswer;
+use text::percent_saved;
 use text::put_byte;
 use text::put_decimal;
 use text::put_field;
 use text::put_letters;
 use text::put_text;
-use text::percent_saved;
-use history::Entry;
-use history::OfferAnswer;
 
 // What the line shows of an entry: its edition number, the held states and the states of its first edition.
 pub struct Summary {

@@ -13,11 +13,11 @@ use answer_lines::put_answer;
 use answer_lines::put_refused;
 use history::Entry;
 use history::OfferAnswer;
-use text::put_text;
 pub use listings::MAX_FILE;
 pub use listings::ROOM;
 pub use listings::fresh;
 pub use listings::listing_line;
+use text::put_text;
 
 // Whether a buffer of so many bytes has the room that is asked for a line with so many letters.
 fn has_room(size: usize, letters: usize) -> bool

@@ -1,4 +1,4 @@
--- The chained index of the slots: a walk along the chain of a hash passes no slot that slot_has the vertex, and a slot more keeps the
+-- The chained index of the slots: a walk along the chain of a hash passes no slot that has the vertex, and a slot more keeps the
 -- index. The idea: what is looked for lies below the place where the walk stands. Assumes nothing.
 use mathlib.Core.Path.{_≡_, refl, sym, _∙_, ap}
 use mathlib.Core.Bool.{Bool, true, false, cond}
@@ -45,7 +45,7 @@ module _ (work : List ℕ) (v : Vertex) where
   same-hash : (s : ℕ) → T (sameVertex v (vertexAt work s)) → hashOf (vertexAt work s) ≡ hashOf v
   same-hash s t = ap hashOf (sym (same-vertex-eq v (vertexAt work s) t))
 
-  -- the slots that the chain passes over do not hold the vertex
+  -- the slots that the chain passes over do not have the vertex
   last-top : (n : ℕ) → lastBelow work v n ≡ lastBelow work v (topBelow work (hashOf v) n)
   unfolding lastBelow topBelow
   last-top zero = refl
@@ -185,11 +185,14 @@ module _ (work work′ heads nexts : List ℕ) (n h : ℕ) (I : Indexed work hea
         next-is = next-more;
       }
 
+hash-below : (v : Vertex) → hashOf v < hashes
+unfolding hashOf
+hash-below v = omega arith
+
 -- the next free slot written and linked
-pub index-with-slot : (work heads nexts : List ℕ) (n h : ℕ) (v : Vertex) (a p : ℕ) → Indexed work heads nexts n
-    → n * slotSize + slotSize ≤ length work
-    → length (v .counters) ≡ 32 → h ≡ hashOf v → h < hashes → n < maxSlots
-    → Indexed (withSlot work n v a p) (set heads h (n + 1)) (set nexts n (getD heads h 0)) (n + 1)
-index-with-slot work heads nexts n h v a p I fits long key small room =
-    index-more work (withSlot work n v a p) heads nexts n h I (λ s l. with-slot-below work n v a p fits s long l)
-    (ap hashOf (with-slot-vertex work n v a p fits long) ∙ sym key) small room
+pub index-with-slot : (work heads nexts : List ℕ) (n : ℕ) (v : Vertex) (a p : ℕ) → Indexed work heads nexts n
+    → n * slotSize + slotSize ≤ length work → length (v .counters) ≡ 32 → n < maxSlots
+    → Indexed (withSlot work n v a p) (set heads (hashOf v) (n + 1)) (set nexts n (getD heads (hashOf v) 0)) (n + 1)
+index-with-slot work heads nexts n v a p I fits long room =
+    index-more work (withSlot work n v a p) heads nexts n (hashOf v) I (λ s l. with-slot-below work n v a p fits s long l)
+    (ap hashOf (with-slot-vertex work n v a p fits long)) (hash-below v) room

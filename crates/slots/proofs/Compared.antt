@@ -26,7 +26,7 @@ unfolding allZero
 zero-everywhere [] h = refl
 zero-everywhere (c ∷ cs) h = rw (eq-eqb c 0 (h 0 (omega arith))) (zero-everywhere cs (λ k l. h (suc k) (omega arith)))
 
--- f slot_has at the first n numbers
+-- f holds at the first n numbers
 unfoldable pub every : (ℕ → Bool) → ℕ → Bool
 every f zero = true
 every f (suc n) = every f n && f n

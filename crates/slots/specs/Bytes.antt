@@ -1,14 +1,14 @@
 -- What the bytes of the work buffer say (01, "The walk"), for the contracts of the code that writes and reads slots.
 --   withSlot work s v a p   the work buffer with the slot of the vertex v, found by letter a from slot p, written as slot s
---   vertexAt work s       the vertex in slot s: "byte 0 left state, 1-32 counters"
---   letterAt, parentAt    of slot s: "33 letter, 34-35 parent's slot number (low byte first)"
---   Found, lastBelow      the last of the first n slots that slot_has the vertex v, or nothing
+--   vertexAt work s       the vertex in slot s, by its bytes 0 to 32
+--   letterAt, parentAt    the letter and the parent of slot s, by its bytes 33 to 35
+--   Found, lastBelow      the last of the first n slots that have the vertex v, or nothing
 --   hashOf v              the hash of a vertex, a number below 4096: its left state and the hash of its counters
 --   topBelow work h n     1 + the last of the first n slots whose vertex has the hash h, or 0
 --   Indexed               heads[h] is 1 + the last of the n slots with hash h, nexts[s] the same of the slots below s with the hash of s
 --   Falls work s          the slots 1 to s have parents with lower numbers
 --   wordAt work s         the letters on the way to slot s, read back by the parents, first letter first
--- Assumes nothing.
+-- Shown by the contracts of `find`, `append` and `read_back`. Assumes nothing.
 use mathlib.Core.Path.{_≡_}
 use mathlib.Core.Bool.{cond}
 use mathlib.Core.List.{List, [], _∷_, _++_}

@@ -1,10 +1,10 @@
 -- Vertices and slots, 01's term (01, "The walk").
 --   sameVertex u v       the same left state and the same counters
---   allZero cs           all counters are 0: "A vertex is final if all counters are 0"
---   slotCount n          the slots S of a work buffer of n bytes: "work buffer length divided by 40, rounded down, at most 4,096"
---   slotBytes v a p      a slot's 40 bytes for the vertex v, found by letter a from the slot p: "byte 0 left state, 1-32 counters,
---                        33 letter, 34-35 parent's slot number (low byte first), 36-39 zero"
--- Assumes nothing.
+--   allZero cs           every counter is 0, which makes a vertex final
+--   slotCount n          the slots S of a work buffer of n bytes: as many as fit, 40 bytes each, and no more than 4,096
+--   slotBytes v a p      a slot's 40 bytes for the vertex v, found by letter a from the slot p: the left state, the 32 counters,
+--                        the letter, the number of slot p, low byte in front, and four zeros
+-- Shown by the contracts of `slot_count`, `is_final` and `put_slot`, and by `same-vertex-eq`. Assumes nothing.
 use mathlib.Core.Bool.{Bool, true, false, _&&_}
 use mathlib.Core.List.{List, [], _∷_, _++_}
 use Prim.Native.Nat.{ℕ, _/_, _%_, min}
@@ -36,7 +36,7 @@ unfoldable pub allZero : List ℕ → Bool
 allZero [] = true
 allZero (c ∷ cs) = eqb c 0 && allZero cs
 
--- "Slot 0 has FF in 33-35": the initial vertex was found by no letter and from no slot
+-- the initial vertex was found by no letter and from no slot: FF in bytes 33 to 35
 abbrev pub noLetter : ℕ
 noLetter = 0xff
 

@@ -1,10 +1,11 @@
-// Vertices of the lag-checking graph, and the slots of the work buffer that hold them. Only this crate knows a slot's layout.
+// Vertices of the lag-checking graph, and the slots of the work buffer that have them. Only this crate knows a slot's layout.
 ghost use mathlib.Core.Path.{_≡_};
 ghost use mathlib.Core.List.{_++_};
 ghost use Prim.Native.Nat.{_+_, _*_, _%_, _^_, _<_, _≤_};
 ghost use lib.ListN.{length, getD, set, drop};
 ghost use Rattle.slots.specs.Slots.{slotCount, slotSize, maxSlots, sameVertex, allZero, slotBytes};
 ghost use Rattle.slots.specs.Bytes.{withSlot, vertexAt, letterAt, parentAt, lastBelow, hashes, fourFrom, countersHash, hashOf, Indexed, Falls, wordAt};
+use automaton::MAX_STATES;
 
 // The bytes of a slot.
 pub const SLOT_SIZE: usize = 40;
@@ -12,13 +13,21 @@ pub const SLOT_SIZE: usize = 40;
 // The most slots that a walk uses.
 pub const MAX_SLOTS: usize = 4096;
 
-// A left state, and the counters of all 32 right-hand states.
+// What the initial vertex's slot has as letter and as parent, since it was found by none.
+pub const NO_LETTER: u8 = 255;
+
+pub const NO_PARENT: usize = 65535;
+
+// The number of hashes of vertices.
+const HASHES: usize = 4096;
+
+// A left state, and a counter for each right state that there can be.
 pub struct Vertex {
     pub left: u8,
     pub counters: [u8; 32],
 }
 
-// The slot that slot_has a vertex, where one does.
+// The slot that has a vertex, where one does.
 pub enum Found {
     At(usize),
     Nothing,
@@ -38,7 +47,7 @@ pub fn is_final(counters: [u8; 32]) -> bool
 {
     let mut zero = true;
     let mut i: usize = 0;
-    while i < 32 {
+    while i < MAX_STATES {
         zero = zero & (counters[i] == 0);
         i += 1;
     }
@@ -52,7 +61,7 @@ pub fn put_slot(part: &mut [u8], v: Vertex, letter: u8, parent: usize)
 {
     part[0] = v.left;
     let mut i: usize = 0;
-    while i < 32 {
+    while i < MAX_STATES {
         part[1 + i] = v.counters[i];
         i += 1;
     }
@@ -83,7 +92,7 @@ pub fn load(work: &[u8], s: usize) -> Vertex
     let from = at + 1;
     let mut counters = [0u8; 32];
     let mut i: usize = 0;
-    while i < 32 {
+    while i < MAX_STATES {
         counters[i] = work[from + i];
         i += 1;
     }
@@ -93,7 +102,7 @@ pub fn load(work: &[u8], s: usize) -> Vertex
     }
 }
 
-// Whether slot s slot_has the vertex.
+// Whether slot s has the vertex.
 pub fn slot_has(work: &[u8], s: usize, v: Vertex) -> bool
     requires { ⌜ s < slotCount (length (now work)) ⌝ }
     ensures { λ r. ⌜ r ≡ sameVertex v (vertexAt (now (work .entry)) s) ⌝ }
@@ -105,7 +114,7 @@ pub fn slot_has(work: &[u8], s: usize, v: Vertex) -> bool
     let from = at + 1;
     let mut same = true;
     let mut r: usize = 0;
-    while r < 32 {
+    while r < MAX_STATES {
         same = same & (v.counters[r] == work[from + r]);
         r += 1;
     }
@@ -128,11 +137,11 @@ pub fn counters_hash(counters: [u8; 32]) -> usize
 {
     let mut h: usize = 0;
     let mut i: usize = 0;
-    while i < 32 {
+    while i < MAX_STATES {
         h = (h * 31 + four(counters, i)) % 68719476736;
         i += 4;
     }
-    h * 165967259 / 67108864 % 4096
+    h * 165967259 / 67108864 % HASHES
 }
 
 // The hash of a vertex, whose counters have the hash `part`. A call of it also tells its caller that there are 32 counters.
@@ -140,10 +149,10 @@ pub fn vertex_hash(v: Vertex, part: usize) -> usize
     requires { ⌜ part ≡ countersHash (v .counters) ⌝ }
     ensures { λ r. ⌜ (r ≡ hashOf v) × (r < hashes) × (length (v .counters) ≡ 32) ⌝ }
 {
-    (automaton::wide(v.left) * 127 + part) % 4096
+    (automaton::wide(v.left) * 127 + part) % HASHES
 }
 
-// The last of the first n slots that slot_has the vertex, whose hash is h: it lies on the chain of h.
+// The last of the first n slots that have the vertex, whose hash is h: it lies on the chain of h.
 pub fn find(work: &[u8], heads: &[u16], nexts: &[u16], n: usize, v: Vertex, h: usize) -> Found
     requires { ⌜ (n ≤ slotCount (length (now work))) × (h ≡ hashOf v) × (h < hashes) × Indexed (now work) (now heads) (now nexts) n ⌝ }
     ensures { λ r. ⌜ r ≡ lastBelow (now (work .entry)) v n ⌝ }
@@ -169,7 +178,7 @@ fn link(heads: &mut [u16], nexts: &mut [u16], n: usize, h: usize)
     heads[h] = (n + 1) as u16;
 }
 
-// Writes the next free slot, n, and puts it on the chain of its vertex's hash, h.
+// Writes slot n, the next free one, and makes it the first of the chain of h, its vertex's hash.
 pub fn append(
     work: &mut [u8],
     heads: &mut [u16],
@@ -180,9 +189,12 @@ pub fn append(
     parent: usize,
     h: usize,
 )
-    requires { ⌜ (n < slotCount (length (now work))) × (parent < 65536) × (h ≡ hashOf v) × (h < hashes) × Indexed (now work) (now heads) (now nexts) n ⌝ }
+    requires { ⌜
+        (n < slotCount (length (now work))) × (parent < 65536) × (h < length (now heads)) × (n < length (now nexts))
+        ⌝ }
     ensures bytes { λ _. ⌜ now (work .exit) ≡ withSlot (now (work .entry)) n v letter parent ⌝ }
-    ensures index { λ _. ⌜ Indexed (now (work .exit)) (now (heads .exit)) (now (nexts .exit)) (n + 1) ⌝ }
+    ensures head { λ _. ⌜ now (heads .exit) ≡ set (now (heads .entry)) h (n + 1) ⌝ }
+    ensures next { λ _. ⌜ now (nexts .exit) ≡ set (now (nexts .entry)) n (getD (now (heads .entry)) h 0) ⌝ }
 {
     write_slot(work, n, v, letter, parent);
     link(heads, nexts, n, h);

@@ -1,5 +1,5 @@
 -- The loop over the letters of a place and the loop over the places follow the definition: before each letter, and before each place,
--- what is left of the fold from the list that the work buffer shows makes the walk of the whole. Assumes nothing.
+-- what is left of the fold from the list that the work buffer represents makes the walk of the whole. Assumes nothing.
 use mathlib.Core.Path.{_≡_, sym, _∙_, ap, subst}
 use mathlib.Core.Bool.{Bool, true, false}
 use mathlib.Core.List.{List, [], _++_, map, flatMap}
@@ -7,7 +7,7 @@ use Prim.Native.Nat.{ℕ, suc, _+_, _-_, _≤_, _<_}
 use native.Mathlib.Nat.{sub-zero}
 use native.Mathlib.Numerals.{add-one}
 use native.Mathlib.Omega.{arith}
-use lib.ListN.{length}
+use lib.ListN.{length, getD}
 use Rattle.automaton.specs.declared.Automaton.{Automaton}
 use Rattle.automaton.specs.Automata.{maxStates, maxLetters, targets}
 use Rattle.automaton.specs.Members.{transitionIn, nextFrom}
@@ -16,16 +16,18 @@ use Rattle.slots.specs.declared.Vertex.{Vertex}
 use Rattle.slots.specs.Slots.{slotCount, noLetter, noParent}
 use Rattle.slots.specs.Bytes.{vertexAt}
 use Rattle.walk.specs.declared.Rules.{Rules}
-use Rattle.walk.specs.declared.Step.{Step}
 use Rattle.walk.specs.declared.Walked.{Walked}
 use Rattle.walk.specs.declared.Walked.the-variants.{Going}
 use Rattle.graph.specs.Discovery.{Node, Walk, going, ended, full, below, discover, discoverAll, successorsAt, expand, expandAll, begin}
 use Rattle.graph.specs.LagGraph.{initialVertex, successor, successors, lagGraph}
 use Rattle.graph.specs.Walks.{walkOf}
-use Rattle.walk.specs.Representation.{Represents, Becomes, Side, RightSide, RulesOf, Needed, StepOf}
+use Rattle.step.specs.declared.Step.{Step}
+use Rattle.step.specs.Steps.{stepOn, Side, Needed}
+use Rattle.step.proofs.Steps.{step-letter, step-counters}
+use Rattle.walk.specs.Representation.{Represents, Becomes, RulesOf}
 use Rattle.graph.proofs.Discoveries.{successors-in, expand-all-ended, expand-all-full, expand-all-past}
 use Rattle.walk.proofs.RepresentedSlots.{slot-represented, represented-none}
-use Rattle.walk.proofs.FoldLoops.{Stops, represented-going, FoldLoops, onward-next, onward-stop, onward-end, TargetsDone, no-targets}
+use Rattle.walk.proofs.FoldLoops.{Stops, represented-going, ToGo, to-go-next, to-go-stop, to-go-end, TargetsDone, no-targets}
 
 -- The letters on which a place is expanded.
 
@@ -57,17 +59,18 @@ LetterDone rules lefts masks v a p before n work r =
 
 module _ (rules : Rules) (lefts masks : List ℕ) (v : Vertex) (a p : ℕ) (work : List ℕ) (m : ℕ) where
   -- by the step of the vertex and its targets
-  pub letter-done : (step : Step) → step .letter ≡ a → a < rules .letters
-      → (lower other : Bool)
+  pub letter-done : (lower other : Bool) (step : Step) → step ≡ stepOn (rules .right) masks (rules .states) (rules .top) v a lower other
+      → a < rules .letters → a < maxLetters → ((q : ℕ) → q < rules .states → getD (v .counters) q 0 < 256)
       → ((A : Automaton) → Side (rules .left) lefts A → Needed lower true A (v .left) a × Needed other false A (v .left) a)
-      → ((A B : Automaton) (b k : ℕ) → rules .top ≡ b + 1 → a < k → RightSide (rules .right) masks (rules .states) k B
-      → Needed lower true A (v .left) a → Needed other false A (v .left) a → StepOf step A B b v)
       → (work′ : List ℕ) (r : Walked) → TargetsDone (rules .left) lefts step p work m work′ r
       → LetterDone rules lefts masks v a p work m work′ r
-  letter-done step e within lower other needs steps work′ r seen A B b R =
+  letter-done lower other step e within h bytes needs work′ r seen A B b R =
       let n = needs A (R .left) in
-      subst (λ (c : ℕ). Becomes work m work′ r (λ S w. discoverAll (lagGraph A B b) (below S) p w (edgesOn A B b v c))) e
-      (seen A B b v (R .left) (steps A B b (rules .letters) (R .top-is) within (R .right) (n .0) (n .1)))
+      let letter = step-letter (rules .right) masks (rules .states) (rules .top) v a lower other step e in
+      subst (λ (c : ℕ). Becomes work m work′ r (λ S w. discoverAll (lagGraph A B b) (below S) p w (edgesOn A B b v c))) letter
+      (seen A B b v (R .left)
+      (step-counters (rules .right) masks (rules .states) (rules .top) v a lower other step e A B b (rules .letters) (R .top-is) within h
+      (R .right) bytes (n .0) (n .1)))
 
   -- where the left state has no target there is no successor
   pub letter-none : v .left < maxStates → a < maxLetters → nextFrom (transitionIn lefts (v .left) a) maxStates 0 ≡ maxStates
@@ -82,7 +85,7 @@ abbrev pub LettersToGo : Rules → List ℕ → List ℕ → Vertex → ℕ → 
 LettersToGo rules lefts masks v p before n work m a =
     (A B : Automaton) (b : ℕ) → RulesOf rules lefts masks A B b
     → (start : List ℕ) (ns : List (Node Vertex)) → Represents before (Going n) start (going ns)
-    → FoldLoops A B b p work m start (edgesFromLetter A B b v (rules .letters) a)
+    → ToGo A B b p work m start (edgesFromLetter A B b v (rules .letters) a)
     (expand (lagGraph A B b) (below (slotCount (length start))) p (going ns))
 
 abbrev pub PlaceDone : Rules → List ℕ → List ℕ → ℕ → List ℕ → ℕ → List ℕ → Walked → Type 0
@@ -107,18 +110,18 @@ module _ (rules : Rules) (lefts masks : List ℕ) (v : Vertex) (p : ℕ) (before
   module _ (work : List ℕ) (m a : ℕ) (O : LettersToGo rules lefts masks v p before n work m a) where
     pub letters-end : rules .letters ≤ a → PlaceDone rules lefts masks p before n work (Going m)
     letters-end h A B b R start ns S =
-        onward-end A B b p work m start (edgesFromLetter A B b v (rules .letters) a) _ (O A B b R start ns S)
+        to-go-end A B b p work m start (edgesFromLetter A B b v (rules .letters) a) _ (O A B b R start ns S)
         (edges-none A B b v (rules .letters) a h)
 
     module _ (h : a < rules .letters) (work′ : List ℕ) (r : Walked) (seen : LetterDone rules lefts masks v a p work m work′ r) where
       pub letters-stop : Stops r → PlaceDone rules lefts masks p before n work′ r
       letters-stop k A B b R start ns S =
-          onward-stop A B b p work m work′ r start (edgesOn A B b v a) (edgesFromLetter A B b v (rules .letters) (a + 1))
+          to-go-stop A B b p work m work′ r start (edgesOn A B b v a) (edgesFromLetter A B b v (rules .letters) (a + 1))
           (edgesFromLetter A B b v (rules .letters) a) _ (O A B b R start ns S) (edges-more A B b v (rules .letters) a h) (seen A B b R) k
 
       pub letters-next : (x : ℕ) → r ≡ Going x → LettersToGo rules lefts masks v p before n work′ x (a + 1)
       letters-next x q A B b R start ns S =
-          onward-next A B b p work m work′ r start (edgesOn A B b v a) (edgesFromLetter A B b v (rules .letters) (a + 1))
+          to-go-next A B b p work m work′ r start (edgesOn A B b v a) (edgesFromLetter A B b v (rules .letters) (a + 1))
           (edgesFromLetter A B b v (rules .letters) a) _ (O A B b R start ns S) (edges-more A B b v (rules .letters) a h) (seen A B b R) x q
 
 -- All places.

@@ -1,4 +1,4 @@
--- The word of the final vertex is read in the slots: the slots hold the listed nodes, whose parents have lower places, so the
+-- The word of the final vertex is read in the slots: the slots have the listed nodes, whose parents have lower places, so the
 -- parents' letters in the slots spell the word of the definition. Assumes nothing.
 use mathlib.Core.Path.{_≡_, refl, sym, _∙_, ap, ap₂, subst}
 use mathlib.Core.Bool.{Bool, cond}
@@ -7,21 +7,86 @@ use Prim.Native.Nat.{ℕ, zero, suc, _+_, _≤_, _<_}
 use native.Mathlib.Omega.{arith}
 use borrow.Author.Tests.{le-leb, lt-leb}
 use lib.ListN.{length, getD, set, drop, length-append}
-use Rattle.automaton.specs.Automata.{maxStates}
+use Rattle.automaton.specs.declared.Automaton.{Automaton}
+use Rattle.automaton.specs.Automata.{maxStates, InRange}
 use Rattle.slots.specs.declared.Vertex.{Vertex}
 use Rattle.slots.specs.Slots.{slotCount}
 use Rattle.slots.specs.Bytes.{letterAt, parentAt, Falls, backFrom, wordAt}
 use Rattle.slots.proofs.Words.{letter-put}
-use Rattle.walk.specs.declared.Walked.the-variants.{Ended}
 use Rattle.graph.specs.Discovery.{Graph, Node, ended, root, at, back, wordTo}
 use Rattle.graph.specs.LagGraph.{lagGraph}
-use Rattle.graph.specs.Walks.{wordOf, Fits, wordAfter}
-use Rattle.walk.specs.Representation.{Wide, Represents, FoundFinal, WordRead}
+use Rattle.graph.specs.Walks.{walkOf, workAfter, wordOf, wordAfter, Fits}
 use Rattle.graph.proofs.Discoveries.{at-left, at-last, length-snoc}
 use Rattle.graph.proofs.Parents.{Linked}
 use Rattle.graph.proofs.Words.{word-step}
 use Rattle.graph.proofs.WalkTheorem.{walk-ended, list-links, list-in-range}
+use Rattle.walk.specs.declared.Walked.the-variants.{Ended}
+use Rattle.walk.specs.Representation.{Wide, Represents, finalWordIn}
 use Rattle.walk.proofs.RepresentedSlots.{slot-represented, represented-length}
+
+-- What the code reads.
+
+module _ (work : List ℕ) (letter parent : ℕ) where
+  final-none : (place : ℕ) → place ≡ 0 → finalWordIn work place letter parent ≡ []
+  unfolding finalWordIn
+  final-none zero e = refl
+  final-none (suc place) e = absurd (omega arith)
+
+  final-some : (place : ℕ) → 0 < place → finalWordIn work place letter parent ≡ wordAt work parent ++ letter ∷ []
+  unfolding finalWordIn
+  final-some zero h = absurd (omega arith)
+  final-some (suc place) h = refl
+
+-- the answer r and the word buffer are those of the word w
+abbrev pub Read : List ℕ → ℕ → List ℕ → List ℕ → Type 0
+Read word r after w = (r ≡ length w) × (after ≡ wordAfter word w)
+
+module _ (work : List ℕ) (place letter parent : ℕ) (word : List ℕ) where
+  pub read-none : place ≡ 0 → Read word 0 word (finalWordIn work place letter parent)
+  read-none e =
+      subst (Read word 0 word) (sym (final-none work letter parent place e))
+      (refl, ap (λ (c : Bool). cond c word word) (sym (le-leb 0 (length word) (omega arith))))
+
+  module _ (n : ℕ) (h : 0 < place) (before : n ≡ length (wordAt work parent)) where
+    size : length (wordAt work parent ++ letter ∷ []) ≡ n + 1
+    size = length-append (wordAt work parent) (letter ∷ []) ∙ ap (λ (k : ℕ). k + 1) (sym before)
+
+    pub read-short : length word ≤ n → Read word (n + 1) word (finalWordIn work place letter parent)
+    read-short l =
+        let w = wordAt work parent ++ letter ∷ [] in
+        subst (Read word (n + 1) word) (sym (final-some work letter parent place h)) (
+          sym size,
+          sym (ap (λ (c : Bool). cond c (w ++ drop (length w) word) word) (lt-leb (length w) (length word) (omega (arith, size)))),
+        )
+
+    pub read-written : n < length word → (last : List ℕ) (k : ℕ) → k ≡ length (wordAt work parent) → last ≡ wordAt work parent ++ drop k word
+        → Read word (n + 1) (set last k letter) (finalWordIn work place letter parent)
+    read-written l last k q e =
+        let w = wordAt work parent ++ letter ∷ [] in
+        let d : length w ≡ k + 1 = size ∙ ap (λ (j : ℕ). j + 1) (before ∙ sym q) in
+        subst (Read word (n + 1) (set last k letter)) (sym (final-some work letter parent place h)) (
+          sym size,
+          letter-put (wordAt work parent) word last k letter q (omega (arith, q, before)) e
+              ∙ ap (λ (j : ℕ). w ++ drop j word) (sym d)
+              ∙ sym (ap (λ (c : Bool). cond c (w ++ drop (length w) word) word) (le-leb (length w) (length word) (omega (arith, size)))),
+        )
+
+-- What it reads after a walk.
+
+-- a walk of a left and a right automaton has left `work`, and has ended with the final vertex at this place
+pub record FoundFinal (work : List ℕ) (place letter parent : ℕ) : Type 0 where
+  pub left : Automaton
+  pub right : Automaton
+  pub bound : ℕ
+  pub start : List ℕ
+  pub nodes : List (Node Vertex)
+  pub last : Node Vertex
+  pub in-range : InRange left
+  pub walked : walkOf left right bound (slotCount (length start)) ≡ ended nodes last
+  pub bytes : work ≡ workAfter start (ended nodes last)
+  pub place-is : place ≡ length nodes
+  pub letter-is : letter ≡ last .letter
+  pub parent-is : parent ≡ last .parent
 
 all-wide : (ns : List (Node Vertex)) (d : Node Vertex) → ((i : ℕ) → i < length ns → length (getD ns i d .vertex .counters) ≡ maxStates)
     → Wide ns
@@ -102,52 +167,23 @@ module _ (work : List ℕ) (place letter parent : ℕ) (E : FoundFinal work plac
       ap₂ (λ (l : List ℕ) (a : ℕ). l ++ a ∷ [])
       (ap (backFrom k work) (s .1) ∙ back-represented k (at graph list (suc i) .parent) (omega arith)) (s .0)
 
-  pub final-empty : place ≡ 0 → wordOf (E .left) (E .right) (E .bound) (E .nodes) (E .last) ≡ []
+  word-empty : place ≡ 0 → wordOf (E .left) (E .right) (E .bound) (E .nodes) (E .last) ≡ []
   unfolding wordOf
-  final-empty e = let q : length (E .nodes) ≡ 0 = sym (E .place-is) ∙ e in rw q
+  word-empty e = let q : length (E .nodes) ≡ 0 = sym (E .place-is) ∙ e in rw q
 
-  pub final-word : 0 < place → wordOf (E .left) (E .right) (E .bound) (E .nodes) (E .last) ≡ wordAt work parent ++ letter ∷ []
+  word-more : 0 < place → wordOf (E .left) (E .right) (E .bound) (E .nodes) (E .last) ≡ wordAt work parent ++ letter ∷ []
   unfolding wordOf wordAt
-  final-word h =
+  word-more h =
       ap (wordTo graph list) (sym (E .place-is))
       ∙ word-step graph (links .0) list (links .1) place (omega (arith, long, E .place-is)) h
       ∙ ap (λ (n : Node Vertex). wordTo graph list (n .parent) ++ n .letter ∷ []) final-node
       ∙ ap₂ (λ (p a : ℕ). wordTo graph list p ++ a ∷ []) (sym (E .parent-is)) (sym (E .letter-is))
       ∙ ap (λ (l : List ℕ). l ++ letter ∷ []) (sym (back-represented parent parent (omega (arith, below h, E .place-is))))
 
-  -- What the code has read.
-
-  pub read-none : (word : List ℕ) → place ≡ 0 → WordRead work place letter parent word 0 word E
-  read-none word e =
-      record {
-        count = sym (ap length (final-empty e));
-        letters = sym (ap (wordAfter word) (final-empty e) ∙ ap (λ (c : Bool). cond c word word) (le-leb 0 (length word) (omega arith)));
-      }
-
-  module _ (word : List ℕ) (n : ℕ) (h : 0 < place) (before : n ≡ length (wordAt work parent)) where
-    size : length (wordAt work parent ++ letter ∷ []) ≡ n + 1
-    size = length-append (wordAt work parent) (letter ∷ []) ∙ ap (λ (k : ℕ). k + 1) (sym before)
-
-    pub read-short : length word ≤ n → WordRead work place letter parent word (n + 1) word E
-    read-short l =
-        let w = wordAt work parent ++ letter ∷ [] in
-        record {
-          count = sym (ap length (final-word h) ∙ size);
-          letters = sym (ap (wordAfter word) (final-word h) ∙ ap (λ (c : Bool). cond c (w ++ drop (length w) word) word)
-              (lt-leb (length w) (length word) (omega (arith, size))));
-        }
-
-    pub read-written : n < length word → (last : List ℕ) (k : ℕ) → k ≡ length (wordAt work parent) → last
-        ≡ wordAt work parent ++ drop k word
-        → WordRead work place letter parent word (n + 1) (set last k letter) E
-    read-written l last k q e =
-        let w = wordAt work parent ++ letter ∷ [] in
-        let d : length w ≡ k + 1 = size ∙ ap (λ (j : ℕ). j + 1) (before ∙ sym q) in
-        record {
-          count = sym (ap length (final-word h) ∙ size);
-          letters =
-              letter-put (wordAt work parent) word last k letter q (omega (arith, q, before)) e
-              ∙ ap (λ (j : ℕ). w ++ drop j word) (sym d)
-              ∙ sym (ap (wordAfter word) (final-word h) ∙ ap (λ (c : Bool). cond c (w ++ drop (length w) word) word)
-              (le-leb (length w) (length word) (omega (arith, size))));
-        }
+  -- the word that is read is the walk's
+  pub final-word-is : finalWordIn work place letter parent ≡ wordOf (E .left) (E .right) (E .bound) (E .nodes) (E .last)
+  final-word-is = go place refl
+    where
+      go : (i : ℕ) → place ≡ i → finalWordIn work place letter parent ≡ wordOf (E .left) (E .right) (E .bound) (E .nodes) (E .last)
+      go zero e = final-none work letter parent place e ∙ sym (word-empty e)
+      go (suc i) e = final-some work letter parent place (omega arith) ∙ sym (word-more (omega arith))

@@ -1,7 +1,7 @@
 -- The code's loops follow the definition's folds: before each round of a loop the rest of the fold, from the list that the work
--- buffer shows, gives the walk of the whole, and an answer that stops the loop is that walk's already. Assumes nothing.
-use mathlib.Core.Path.{_≡_, refl, sym, _∙_, ap, ap₂, subst}
-use mathlib.Core.Bool.{Bool, true, false, cond}
+-- buffer represents, gives the walk of the whole, and an answer that stops the loop is that walk's already. Assumes nothing.
+use mathlib.Core.Path.{_≡_, refl, sym, _∙_, ap, subst}
+use mathlib.Core.Bool.{Bool, true, cond}
 use mathlib.Core.Logic.{inl, inr}
 use mathlib.Core.List.{List, [], _∷_, _++_, map}
 use Prim.Native.Nat.{ℕ, _+_, _-_, _≤_, _<_}
@@ -10,26 +10,27 @@ use native.Mathlib.Omega.{arith}
 use types.Run.{OneOf}
 use denote.Enum.Declared.{tagOf}
 use lib.Dec.{T}
-use lib.ListN.{length, getD}
+use lib.ListN.{length}
 use Rattle.automaton.specs.declared.Automaton.{Automaton}
-use Rattle.automaton.specs.Automata.{maxStates, maxLetters, accepts, transition, targets, InRange}
+use Rattle.automaton.specs.Automata.{maxStates, maxLetters, transition, targets, InRange}
 use Rattle.automaton.specs.Members.{transitionIn, nextFrom}
-use Rattle.automaton.specs.Ranges.{those, table}
+use Rattle.automaton.specs.Ranges.{those}
 use Rattle.automaton.specs.Sets.{member}
 use Rattle.automaton.proofs.Members.{those-next, those-here, those-end, those-same}
-use Rattle.automaton.proofs.Tests.{is-true, not-T-false}
+use Rattle.automaton.proofs.Tests.{is-true}
 use Rattle.slots.specs.declared.Vertex.{Vertex}
 use Rattle.slots.specs.Slots.{slotCount}
-use Rattle.slots.specs.Bytes.{countersHash}
-use Rattle.walk.specs.declared.Step.{Step}
-use Rattle.walk.specs.declared.Walked.{Walked}
-use Rattle.walk.specs.declared.Walked.the-variants.{Going, Ended, Full}
 use Rattle.graph.specs.Discovery.{Node, Walk, going, ended, full, below, discover, discoverAll}
 use Rattle.graph.specs.LagGraph.{successor, lagGraph}
-use Rattle.walk.specs.Representation.{Represents, Becomes, Ready, Side, RightSide, StepOf, largestInto, counterFrom, Masks, NoneFrom, Needed}
-use Rattle.walk.proofs.Walked.{the-type}
 use Rattle.graph.proofs.Discoveries.{discover-all-ended, discover-all-full, discover-all-append}
-use Rattle.walk.proofs.SteppedBytes.{transition-in-range, accepts-in-range, stepped-is}
+use Rattle.step.specs.declared.Step.{Step}
+use Rattle.step.specs.Steps.{Side, StepOf}
+use Rattle.step.proofs.SteppedBytes.{transition-in-range}
+use Rattle.step.proofs.Steps.{target-successor}
+use Rattle.walk.specs.declared.Walked.{Walked}
+use Rattle.walk.specs.declared.Walked.the-variants.{Going, Ended, Full}
+use Rattle.walk.specs.Representation.{Represents, Becomes, Ready}
+use Rattle.walk.proofs.Walked.{the-type}
 
 -- an answer that ends the loops
 abbrev pub Stops : Walked → Type 0
@@ -57,7 +58,7 @@ represented-going work r x start (full ms) e S =
     absurd (omega arith)
 
 module _ (A B : Automaton) (b p : ℕ) where
-  -- a walk that an answer shows to have stopped stays as it is
+  -- a walk that has stopped, by the answer, stays as it is
   stopped-discover-all : (work : List ℕ) (r : Walked) (start : List ℕ) (w : Walk Vertex) (es : List (ℕ × Vertex)) → Stops r → Represents work r start w
       → discoverAll (lagGraph A B b) (below (slotCount (length start))) p w es ≡ w
   stopped-discover-all work r start (going ns) es t S = absurd (subst Stops (S .answer) t)
@@ -65,14 +66,14 @@ module _ (A B : Automaton) (b p : ℕ) where
   stopped-discover-all work r start (full ns) es t S = discover-all-full (lagGraph A B b) (below (slotCount (length start))) p ns es
 
   -- es, discovered from the list that work represents, make W
-  abbrev pub FoldLoops : List ℕ → ℕ → List ℕ → List (ℕ × Vertex) → Walk Vertex → Type 0
-  FoldLoops work m start es W =
+  abbrev pub ToGo : List ℕ → ℕ → List ℕ → List (ℕ × Vertex) → Walk Vertex → Type 0
+  ToGo work m start es W =
       (ms : List (Node Vertex)) × Represents work (Going m) start (going ms)
       × (discoverAll (lagGraph A B b) (below (slotCount (length start))) p (going ms) es ≡ W)
 
   -- the code has discovered fs, the first of them
   module _ (work : List ℕ) (m : ℕ) (work′ : List ℕ) (r : Walked) (start : List ℕ) (fs es gs : List (ℕ × Vertex)) (W : Walk Vertex)
-      (O : FoldLoops work m start gs W) (first : gs ≡ fs ++ es)
+      (O : ToGo work m start gs W) (first : gs ≡ fs ++ es)
       (made : Becomes work m work′ r (λ S w. discoverAll (lagGraph A B b) (below S) p w fs)) where
     after : Represents work′ r start (discoverAll (lagGraph A B b) (below (slotCount (length start))) p (going (O .0)) fs)
     after = made start (O .0) (O .1)
@@ -84,19 +85,19 @@ module _ (A B : Automaton) (b p : ℕ) where
         ∙ ap (discoverAll (lagGraph A B b) (below (slotCount (length start))) p (going (O .0))) (sym first)
         ∙ O .2
 
-    pub onward-next : (x : ℕ) → r ≡ Going x → FoldLoops work′ x start es W
-    onward-next x e =
+    pub to-go-next : (x : ℕ) → r ≡ Going x → ToGo work′ x start es W
+    to-go-next x e =
         let g = represented-going work′ r x start (discoverAll (lagGraph A B b) (below (slotCount (length start))) p (going (O .0)) fs) e after in
         (g .0, g .2, ap (λ (w : Walk Vertex). discoverAll (lagGraph A B b) (below (slotCount (length start))) p w es) (sym (g .1)) ∙ whole)
 
-    pub onward-stop : Stops r → Represents work′ r start W
-    onward-stop t =
+    pub to-go-stop : Stops r → Represents work′ r start W
+    to-go-stop t =
         let w = discoverAll (lagGraph A B b) (below (slotCount (length start))) p (going (O .0)) fs in
         subst (λ (x : Walk Vertex). Represents work′ r start x) (sym (stopped-discover-all work′ r start w es t after) ∙ whole) after
 
-  pub onward-end : (work : List ℕ) (m : ℕ) (start : List ℕ) (es : List (ℕ × Vertex)) (W : Walk Vertex) → FoldLoops work m start es W
+  pub to-go-end : (work : List ℕ) (m : ℕ) (start : List ℕ) (es : List (ℕ × Vertex)) (W : Walk Vertex) → ToGo work m start es W
       → es ≡ [] → Represents work (Going m) start W
-  onward-end work m start es W O e =
+  to-go-end work m start es W O e =
       subst (λ (w : Walk Vertex). Represents work (Going m) start w)
       (ap (discoverAll (lagGraph A B b) (below (slotCount (length start))) p (going (O .0))) (sym e) ∙ O .2) (O .1)
 
@@ -144,14 +145,14 @@ module _ (A B : Automaton) (b : ℕ) (v : Vertex) (accepting transitions : List 
       L .in-range .transitions-in (step .left) (step .letter) t small letter h
       (subst (λ (l : List ℕ). T (transitionIn l (step .left) (step .letter) t)) (L .transitions-are) (is-true (isTarget t) e)) .2
 
-  pub edges-first : (t : ℕ) → t ≡ nextFrom isTarget maxStates 0
+  edges-first : (t : ℕ) → t ≡ nextFrom isTarget maxStates 0
       → edgesFrom t ≡ map (successor A B b v (step .letter)) (targets A (v .left) (step .letter))
   edges-first t e =
       ap (map (successor A B b v (step .letter)))
       (targets-from A transitions (L .transitions-are) (L .in-range) (step .left) (step .letter) small letter t e
       ∙ ap (λ (q : ℕ). targets A q (step .letter)) (K .left-is))
 
-  pub edges-next : (t s : ℕ) → t < maxStates → isTarget t ≡ true → s ≡ nextFrom isTarget (maxStates - (t + 1)) (t + 1)
+  edges-next : (t s : ℕ) → t < maxStates → isTarget t ≡ true → s ≡ nextFrom isTarget (maxStates - (t + 1)) (t + 1)
       → edgesFrom t ≡ (successor A B b v (step .letter) t ∷ []) ++ edgesFrom s
   edges-next t s h e q =
       ap (map (successor A B b v (step .letter)))
@@ -159,69 +160,8 @@ module _ (A B : Automaton) (b : ℕ) (v : Vertex) (accepting transitions : List 
       ∙ ap (λ (l : List ℕ). t ∷ l) (those-next isTarget maxStates (A .states) (t + 1) (omega arith) ∙ ap
       (λ (j : ℕ). those isTarget (A .states - j) j) (sym q)))
 
-  pub edges-end : (t : ℕ) → maxStates ≤ t → edgesFrom t ≡ []
+  edges-end : (t : ℕ) → maxStates ≤ t → edgesFrom t ≡ []
   edges-end t h = ap (map (successor A B b v (step .letter))) (those-end isTarget (A .states) t (omega (arith, few)))
-
-  -- the vertex that the code makes of a target
-  pub target-successor : (u : Vertex) (t : ℕ) → t < maxStates → isTarget t ≡ true → u .left ≡ t → u .counters
-      ≡ cond (member accepting t) (step .lowered) (step .others)
-      → _≡_ {A = ℕ × Vertex} (step .letter, u) (successor A B b v (step .letter) t)
-  unfolding successor
-  target-successor u t h target e c = go (accepts A t) refl
-    where
-      test : member accepting t ≡ accepts A t
-      test = ap (λ (l : List ℕ). member l t) (L .accepting-is) ∙ sym (accepts-in-range A (L .in-range) t h)
-
-      into : transitionIn (A .transitions) (v .left) (step .letter) t ≡ true
-      into =
-          ap₂ (λ (l : List ℕ) (q : ℕ). transitionIn l q (step .letter) t) (sym (L .transitions-are)) (sym (K .left-is)) ∙ target
-
-      pair : (cs : List ℕ) → u .counters ≡ cs → _≡_ {A = ℕ × Vertex} (step .letter, u) (step .letter, record { left = t; counters = cs })
-      pair cs d = ap₂ (λ (x : ℕ) (l : List ℕ). (step .letter, record { left = x; counters = l })) e d
-
-      chosen : (y : Bool) → accepts A t ≡ y → u .counters ≡ cond y (step .lowered) (step .others)
-      chosen y q = c ∙ ap (λ (z : Bool). cond z (step .lowered) (step .others)) (test ∙ q)
-
-      go : (y : Bool) → accepts A t ≡ y → _≡_ {A = ℕ × Vertex} (step .letter, u) (successor A B b v (step .letter) t)
-      go true q = pair _ (chosen true q ∙ K .lowered-are t (h, into, q))
-      go false q = pair _ (chosen false q ∙ K .others-are t (h, into, q))
-
--- the hash of the counters at a left target
-pub target-part : (y : Bool) (ls os cs : List ℕ) (h k x : ℕ) → h ≡ countersHash ls → k ≡ countersHash os → x ≡ cond y h k
-    → cs ≡ cond y ls os → x ≡ countersHash cs
-target-part true ls os cs h k x p q e d = e ∙ p ∙ ap countersHash (sym d)
-target-part false ls os cs h k x p q e d = e ∙ q ∙ ap countersHash (sym d)
-
--- the counters that the code computes for a letter
-pub step-is : (A B : Automaton) (b : ℕ) (accepting masks : List ℕ) (n k top : ℕ) (v : Vertex) (a : ℕ) (largest lowered others : List ℕ)
-    → top ≡ b + 1 → a < k → a < maxLetters → RightSide accepting masks n k B
-    → ((t : List ℕ) (j : ℕ) → a < j → Masks masks t n j → NoneFrom t n a → largest ≡ table (largestInto t a (v .counters)) maxStates 0)
-    → (lower other : Bool) → Needed lower true A (v .left) a → Needed other false A (v .left) a
-    → (lower ≡ true → lowered ≡ table (λ r. counterFrom top (member accepting r) true (getD largest r 0)) maxStates 0)
-    → (other ≡ true → others ≡ table (λ r. counterFrom top (member accepting r) false (getD largest r 0)) maxStates 0)
-    → (x y : ℕ)
-    → StepOf (record { left = v .left; letter = a; lowered = lowered; lowkey = x; others = others; otherkey = y }) A B b v
-step-is A B b accepting masks n k top v a largest lowered others e below h R el lower other nl no′ ea eo x y =
-    record {
-      left-is = refl;
-      lowered-are = λ t s.
-          stepped-is A B b (R .in-range) a t (v .counters) h true largest lowered (s .2) into (ea (nl t s) ∙ counters true);
-      others-are = λ t s.
-          stepped-is A B b (R .in-range) a t (v .counters) h false largest others (s .2) into (eo (no′ t s) ∙ counters false);
-    }
-  where
-    none : NoneFrom (B .transitions) n a
-    none p r q l i =
-        not-T-false (transitionIn (B .transitions) p a r)
-        (λ t. omega (arith, R .in-range .transitions-in p a r l h i t .0, R .states-are))
-
-    into : largest ≡ table (largestInto (B .transitions) a (v .counters)) maxStates 0
-    into = el (B .transitions) k below (R .masks-are) none
-
-    counters : (l : Bool) → table (λ r. counterFrom top (member accepting r) l (getD largest r 0)) maxStates 0
-        ≡ table (λ r. counterFrom (b + 1) (member (B .accepting) r) l (getD largest r 0)) maxStates 0
-    counters l =
-        ap₂ (λ (x : ℕ) (y : List ℕ). table (λ r. counterFrom x (member y r) l (getD largest r 0)) maxStates 0) e (R .accepting-is)
 
 -- What the loops keep of the work buffer and its index.
 pub record Kept (work₀ heads₀ nexts₀ work heads nexts : List ℕ) (m : ℕ) : Type 0 where
@@ -231,12 +171,12 @@ pub record Kept (work₀ heads₀ nexts₀ work heads nexts : List ℕ) (m : ℕ
   pub ready : Ready work heads nexts m
 
 -- Before target t is discovered: the targets from t on, from the list that work represents, make the walk that all targets
--- make of the list that `before` shows.
+-- make of the list that `before` represents.
 abbrev pub TargetsToGo : List ℕ → List ℕ → Step → ℕ → List ℕ → ℕ → List ℕ → ℕ → ℕ → Type 0
 TargetsToGo accepting transitions step p before n work m t =
     (A B : Automaton) (b : ℕ) (v : Vertex) → Side accepting transitions A → StepOf step A B b v
     → (start : List ℕ) (ns : List (Node Vertex)) → Represents before (Going n) start (going ns)
-    → FoldLoops A B b p work m start
+    → ToGo A B b p work m start
     (map (successor A B b v (step .letter)) (those (transitionIn transitions (step .left) (step .letter)) (A .states - t) t))
     (discoverAll (lagGraph A B b) (below (slotCount (length start))) p (going ns)
     (map (successor A B b v (step .letter)) (targets A (v .left) (step .letter))))
@@ -262,7 +202,7 @@ module _ (accepting transitions : List ℕ) (step : Step) (small : step .left < 
   module _ (work : List ℕ) (m t : ℕ) (O : TargetsToGo accepting transitions step p before n work m t) where
     pub targets-end : maxStates ≤ t → TargetsDone accepting transitions step p before n work (Going m)
     targets-end h A B b v L K start ns S =
-        onward-end A B b p work m start (edgesFrom A B b v accepting transitions step L K small letter t) _ (O A B b v L K start ns S)
+        to-go-end A B b p work m start (edgesFrom A B b v accepting transitions step L K small letter t) _ (O A B b v L K start ns S)
         (edges-end A B b v accepting transitions step L K small letter t h)
 
     module _ (h : t < maxStates) (e : transitionIn transitions (step .left) (step .letter) t ≡ true) (u : Vertex) (ul : u .left ≡ t)
@@ -273,11 +213,11 @@ module _ (accepting transitions : List ℕ) (step : Step) (small : step .left < 
             → Becomes work m work′ r (λ S w. discoverAll (lagGraph A B b) (below S) p w (successor A B b v (step .letter) t ∷ []))
         made A B b v L K =
             subst (λ (d : ℕ × Vertex). Becomes work m work′ r (λ S w. discover (lagGraph A B b) (below S) p w d))
-            (target-successor A B b v accepting transitions step L K small letter u t h e ul uc) (seen A B b)
+            (target-successor A B b v accepting transitions step L K u t h e ul uc) (seen A B b)
 
         pub targets-stop : Stops r → TargetsDone accepting transitions step p before n work′ r
         targets-stop k A B b v L K start ns S =
-            onward-stop A B b p work m work′ r start (successor A B b v (step .letter) t ∷ [])
+            to-go-stop A B b p work m work′ r start (successor A B b v (step .letter) t ∷ [])
             (edgesFrom A B b v accepting transitions step L K small letter
             (nextFrom (transitionIn transitions (step .left) (step .letter)) (maxStates - (t + 1)) (t + 1)))
             (edgesFrom A B b v accepting transitions step L K small letter t) _ (O A B b v L K start ns S)
@@ -287,7 +227,7 @@ module _ (accepting transitions : List ℕ) (step : Step) (small : step .left < 
             → s ≡ nextFrom (transitionIn transitions (step .left) (step .letter)) (maxStates - (t + 1)) (t + 1)
             → TargetsToGo accepting transitions step p before n work′ x s
         targets-next x s q d A B b v L K start ns S =
-            onward-next A B b p work m work′ r start (successor A B b v (step .letter) t ∷ [])
+            to-go-next A B b p work m work′ r start (successor A B b v (step .letter) t ∷ [])
             (edgesFrom A B b v accepting transitions step L K small letter s)
             (edgesFrom A B b v accepting transitions step L K small letter t) _
             (O A B b v L K start ns S) (edges-next A B b v accepting transitions step L K small letter t s h e d) (made A B b v L K) x q

@@ -1,48 +1,41 @@
--- The left targets of a step in one word: a word that is 1 above its lowest t bits has no bit above t, and a target outside a set
--- shows in what they have in common. So the flags of a step say which counters its targets need. Assumes nothing.
-use mathlib.Core.Path.{_≡_, refl, sym, _∙_, ap}
+-- The left targets of a step as a set: with the set of accepting states it tells which counters the targets need, and where no member is
+-- above a target, that was the last one. Assumes nothing.
+use mathlib.Core.Path.{_≡_, sym, _∙_, ap, subst}
 use mathlib.Core.Bool.{Bool, true, false, _&&_, not}
 use mathlib.Core.List.{List}
-use Prim.Native.Nat.{ℕ, suc, _+_, _-_, _/_, _^_, _<_}
-use native.Mathlib.Nat.{div-div-eq-div-mul, div-eq-of-lt, pow-succ'}
+use Prim.Native.Nat.{ℕ, _+_, _-_, _≤_, _<_}
 use native.Mathlib.Omega.{arith}
-use borrow.Author.Tests.{eqb-true}
-use lib.Bits.{bitAnd}
-use lib.Pow.{pow-add, pow-pos}
-use lib.Dec.{eqb}
+use lib.Dec.{T}
 use Rattle.automaton.specs.declared.Automaton.{Automaton}
-use Rattle.automaton.specs.Members.{transitionIn}
+use Rattle.automaton.specs.Automata.{maxStates}
+use Rattle.automaton.specs.Members.{transitionIn, nextFrom}
 use Rattle.automaton.specs.Ranges.{some}
 use Rattle.automaton.specs.Sets.{bit, member}
-use Rattle.automaton.proofs.Ranges.{some-at}
-use Rattle.automaton.proofs.Tests.{clash, both-and, is-true, T-true}
-use Rattle.relations.proofs.Rows.{bit-and}
-use Rattle.walk.specs.Representation.{Side, StepsTo, Needed}
-use Rattle.walk.proofs.SteppedBytes.{accepts-in-range}
+use Rattle.automaton.proofs.Members.{next-skip, next-end}
+use Rattle.automaton.proofs.Ranges.{some-at, some-intro}
+use Rattle.automaton.proofs.Tests.{both-and, is-true, is-false, T-true, not-T-false}
+use Rattle.step.specs.Steps.{Side, StepsTo, Needed}
+use Rattle.step.proofs.SteppedBytes.{accepts-in-range}
 
-pub last-bit : (w t k : ℕ) → w / 2 ^ t ≡ 1 → t < k → bit w k ≡ false
-last-bit w t k e h =
-    let j = k - (t + 1) in
-    let q : k ≡ t + suc j = omega arith in
-    let above : w / 2 ^ k ≡ 0 =
-    ap (λ (i : ℕ). w / 2 ^ i) q ∙ ap (λ (m : ℕ). w / m) (pow-add 2 t (suc j)) ∙ sym (div-div-eq-div-mul w (2 ^ t) (2 ^ suc j))
-    ∙ ap (λ (x : ℕ). x / 2 ^ suc j) e ∙ div-eq-of-lt (omega (arith, pow-succ' 2 j, pow-pos j)) in
-    rw above
-
-pub beyond-shows : (w v q : ℕ) → bit w q ≡ true → bit v q ≡ false → not (eqb (bitAnd w v) w) ≡ true
-beyond-shows w v q x y = go (eqb (bitAnd w v) w) refl
+-- where no target is above t, the next one is past all states
+pub none-above : (f g : ℕ → Bool) (t : ℕ) → t < maxStates → ((r : ℕ) → r < maxStates → g r ≡ f r)
+    → some g (maxStates - (t + 1)) (t + 1) ≡ false → maxStates ≡ nextFrom f (maxStates - (t + 1)) (t + 1)
+none-above f g t h same e =
+    sym (next-skip f maxStates (t + 1) maxStates (omega arith) (omega arith) none ∙ next-end f maxStates maxStates (omega arith))
   where
-    go : (b : Bool) → eqb (bitAnd w v) w ≡ b → not b ≡ true
-    go false e = refl
-    go true e =
-        let s : bit w q ≡ (bit w q && bit v q) = ap (λ (z : ℕ). bit z q) (sym (eqb-true (bitAnd w v) w e)) ∙ bit-and w v q in
-        clash {c = bit w q} x (s ∙ rw (x, y))
+    none : (k : ℕ) → t + 1 ≤ k → k < maxStates → f k ≡ false
+    none k i j =
+        sym (same k j)
+        ∙ not-T-false (g k)
+        (λ s.
+        let place : t + 1 + (k - (t + 1)) ≡ k = omega arith in
+        subst T e (some-intro g (maxStates - (t + 1)) (t + 1) (k - (t + 1)) (omega arith) (subst (λ (m : ℕ). T (g m)) (sym place) s)))
 
 -- the flags of a step: some left target is accepting, and some is not
 module _ (lefts accepting : List ℕ) (q a targets set : ℕ) (lower other : Bool)
     (row : (r : ℕ) → r < 32 → bit targets r ≡ transitionIn lefts q a r) (all : (r : ℕ) → r < 32 → bit set r ≡ member accepting r)
     (meets : lower ≡ some (λ r. bit targets r && bit set r) 32 0)
-    (beyond : (r : ℕ) → bit targets r ≡ true → bit set r ≡ false → other ≡ true) (A : Automaton) (L : Side accepting lefts A) where
+    (exceeds : other ≡ some (λ r. bit targets r && not (bit set r)) 32 0) (A : Automaton) (L : Side accepting lefts A) where
   target : (y : Bool) (t : ℕ) → StepsTo y A q a t → bit targets t ≡ true
   target y t s = row t (s .0) ∙ ap (λ (l : List ℕ). transitionIn l q a t) (L .transitions-are) ∙ s .1
 
@@ -57,5 +50,9 @@ module _ (lefts accepting : List ℕ) (q a targets set : ℕ) (lower other : Boo
         ∙ T-true _
         (some-at (λ r. bit targets r && bit set r) 32 t (s .0)
         (both-and (bit targets t) (bit set t) (is-true _ (target true t s)) (is-true _ (accepting-is true t s)))),
-    λ t s. beyond t (target false t s) (accepting-is false t s),
+    λ t s.
+        exceeds
+        ∙ T-true _
+        (some-at (λ r. bit targets r && not (bit set r)) 32 t (s .0)
+        (both-and (bit targets t) (not (bit set t)) (is-true _ (target false t s)) (is-false _ (accepting-is false t s)))),
   )

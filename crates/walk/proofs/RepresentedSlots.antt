@@ -1,31 +1,32 @@
--- The slots of a work buffer that shows a walk: each holds its node, so that the search of the slots answers whether a vertex is
--- listed, and a slot written behind them shows the list with one node more. Assumes nothing.
+-- The slots of a work buffer that represents a walk: each has its node, so that the search of the slots answers whether a vertex is
+-- listed, and a slot written behind them represents the list with one node more. Assumes nothing.
 use mathlib.Core.Path.{_≡_, refl, sym, _∙_, ap, ap₂, subst}
 use mathlib.Core.Bool.{Bool, true, false, _||_}
 use mathlib.Core.Logic.{⊎-elim}
 use mathlib.Core.List.{List, [], _∷_, _++_, flatMap, append-assoc, append-nil}
-use Prim.Native.Nat.{ℕ, zero, suc, _+_, _-_, _*_, _≤_, _<_}
+use Prim.Native.Nat.{ℕ, zero, suc, _+_, _*_, _≤_, _<_}
 use native.Mathlib.Nat.{add-zero, zero-add, eq-or-lt-of-le}
 use native.Mathlib.Omega.{arith}
-use borrow.Author.Tests.{lt-ltb, le-ltb}
-use lib.Dec.{T}
-use lib.ListN.{length, drop, length-append, length-drop}
+use borrow.Author.Tests.{lt-ltb, le-ltb, ltb-true, ltb-false}
+use lib.Dec.{T, ltb}
+use lib.ListN.{length, getD, set, drop, length-append, length-drop}
 use lib.Seq.{take-at, drop-at, drop-drop}
 use Rattle.automaton.specs.declared.Automaton.{Automaton}
 use Rattle.automaton.specs.Automata.{maxStates}
 use Rattle.automaton.proofs.Tests.{or-left, or-right, T-true}
 use Rattle.slots.specs.declared.Vertex.{Vertex}
+use Rattle.slots.specs.declared.Found.{Found}
 use Rattle.slots.specs.declared.Found.the-variants.{At, Nothing}
 use Rattle.slots.specs.Slots.{slotSize, slotCount, slotBytes, sameVertex, allZero}
-use Rattle.slots.specs.Bytes.{withSlot, vertexAt, letterAt, parentAt, lastBelow, Indexed}
+use Rattle.slots.specs.Bytes.{withSlot, vertexAt, letterAt, parentAt, lastBelow, hashOf, Indexed}
 use Rattle.slots.proofs.SlotLayout.{slot-long, vertex-read, letter-read, parent-read, slot-passed, with-slot-long, with-slot-vertex, with-slot-below}
-use Rattle.slots.proofs.Chains.{last-found, last-absent}
+use Rattle.slots.proofs.Chains.{last-found, last-absent, index-with-slot}
 use Rattle.walk.specs.declared.Walked.{Walked}
 use Rattle.walk.specs.declared.Walked.the-variants.{Going, Ended, Full}
 use Rattle.graph.specs.Discovery.{Node, Walk, going, nodesOf, node, below, listed, discover, at}
 use Rattle.graph.specs.LagGraph.{lagGraph}
 use Rattle.graph.specs.Walks.{slotsOf, workAfter}
-use Rattle.walk.specs.Representation.{Wide, Represents, Ready}
+use Rattle.walk.specs.Representation.{Wide, Represents, Becomes, After, discoverBy, discoverIn, Ready, ReadyAfter}
 
 abbrev slotOf : Node Vertex → List ℕ
 slotOf n = slotBytes (n .vertex) (n .letter) (n .parent)
@@ -101,7 +102,7 @@ module _ (A B : Automaton) (b : ℕ) where
       (slot-passed work s (m .vertex) (m .letter) (m .parent) (slotsOf ms ++ rest) d (w .0))
       (omega arith))
 
-  -- each slot holds its node
+  -- each slot has its node
   pub slot-represented : (work : List ℕ) (r : Walked) (start : List ℕ) (w : Walk Vertex) → Represents work r start w → (i : ℕ) → i < length (nodesOf w)
       → (vertexAt work i ≡ at (lagGraph A B b) (nodesOf w) i .vertex) × (letterAt work i ≡ at (lagGraph A B b) (nodesOf w) i .letter)
       × (parentAt work i ≡ at (lagGraph A B b) (nodesOf w) i .parent)
@@ -144,16 +145,16 @@ module _ (A B : Automaton) (b : ℕ) where
         let d = slot-represented work (Going n) start (going ns) S i h in
         rw (d .0) at (last-absent work v n e i (omega (arith, count))))
 
-    pub discover-known : (i : ℕ) → lastBelow work v n ≡ At i → Represents work (Going n) start after
+    discover-known : (i : ℕ) → lastBelow work v n ≡ At i → Represents work (Going n) start after
     discover-known i e = rw (is-listed i e) S
 
-    pub discover-final : lastBelow work v n ≡ Nothing → allZero (v .counters) ≡ true → Represents work (Ended n a p) start after
+    discover-final : lastBelow work v n ≡ Nothing → allZero (v .counters) ≡ true → Represents work (Ended n a p) start after
     unfolding workAfter
     discover-final e z =
         rw (none-listed e, z)
         (record { answer = ap (λ (k : ℕ). Ended k a p) count; bytes = S .bytes; wide = S .wide; room = S .room })
 
-    pub discover-full : lastBelow work v n ≡ Nothing → allZero (v .counters) ≡ false → slotCount (length work) ≤ n
+    discover-full : lastBelow work v n ≡ Nothing → allZero (v .counters) ≡ false → slotCount (length work) ≤ n
         → Represents work (Full n) start after
     unfolding workAfter
     discover-full e z h =
@@ -164,7 +165,7 @@ module _ (A B : Automaton) (b : ℕ) where
         rw (none-listed e, z, le-ltb (length ns) (slotCount (length start)) (omega (arith, count)))
         (record { answer = ap Full s; bytes = S .bytes; wide = S .wide; room = S .room })
 
-    pub discover-with-slot : lastBelow work v n ≡ Nothing → allZero (v .counters) ≡ false → n < slotCount (length work)
+    discover-with-slot : lastBelow work v n ≡ Nothing → allZero (v .counters) ≡ false → n < slotCount (length work)
         → length (v .counters) ≡ maxStates → Represents (withSlot work n v a p) (Going (n + 1)) start after
     discover-with-slot e z h wide =
         rw (none-listed e, z, lt-ltb (length ns) (slotCount (length start)) (omega (arith, count, slots)))
@@ -179,13 +180,13 @@ module _ (A B : Automaton) (b : ℕ) where
         slots = ap slotCount (represented-length work (Going n) start (going ns) S)
 
 -- what the next successor needs is there again once a slot has been written
-pub ready-with-slot : (work heads nexts heads′ nexts′ : List ℕ) (n a p : ℕ) (v : Vertex) → Ready work heads nexts n
+ready-with-slot : (work heads nexts : List ℕ) (n a p : ℕ) (v : Vertex) → Ready work heads nexts n
     → n < slotCount (length work) → v .left < maxStates → length (v .counters) ≡ maxStates
-    → Indexed (withSlot work n v a p) heads′ nexts′ (n + 1) → Ready (withSlot work n v a p) heads′ nexts′ (n + 1)
-ready-with-slot work heads nexts heads′ nexts′ n a p v R h l wide I =
+    → Ready (withSlot work n v a p) (set heads (hashOf v) (n + 1)) (set nexts n (getD heads (hashOf v) 0)) (n + 1)
+ready-with-slot work heads nexts n a p v R h l wide =
     record {
       room = let e = ap slotCount (with-slot-long work n v a p fits wide) in omega arith;
-      index = I;
+      index = index-with-slot work heads nexts n v a p (R .index) fits wide (omega arith);
       lefts = λ s k.
           ⊎-elim
           (λ q.
@@ -197,6 +198,70 @@ ready-with-slot work heads nexts heads′ nexts′ n a p v R h l wide I =
   where
     fits : n * slotSize + slotSize ≤ length work
     fits = omega arith
+
+-- One successor in the slots.
+
+-- the answer and the buffers are those of x, and X besides
+abbrev pub Leaves : After → Walked → List ℕ → List ℕ → List ℕ → Type 0 → Type 0
+Leaves x r work heads nexts X = (r ≡ x .answer) × ((work ≡ x .work) × ((heads ≡ x .heads) × ((nexts ≡ x .nexts) × X)))
+
+module _ (work heads nexts : List ℕ) (n p a : ℕ) (v : Vertex) where
+  module _ {X : Type 0} (k : X) where
+    pub discover-has : (i : ℕ) → lastBelow work v n ≡ At i → Leaves (discoverIn work heads nexts n p a v) (Going n) work heads nexts X
+    unfolding discoverIn
+    discover-has i e = rw e (refl, (refl, (refl, (refl, k))))
+
+    pub discover-ends : lastBelow work v n ≡ Nothing → allZero (v .counters) ≡ true
+        → Leaves (discoverIn work heads nexts n p a v) (Ended n a p) work heads nexts X
+    unfolding discoverIn
+    discover-ends e z = rw (e, z) (refl, (refl, (refl, (refl, k))))
+
+    pub discover-takes : lastBelow work v n ≡ Nothing → allZero (v .counters) ≡ false → n < slotCount (length work)
+        → (h : ℕ) (work′ heads′ nexts′ : List ℕ) → h ≡ hashOf v → work′ ≡ withSlot work n v a p → heads′ ≡ set heads h (n + 1)
+        → nexts′ ≡ set nexts n (getD heads h 0)
+        → Leaves (discoverIn work heads nexts n p a v) (Going (n + 1)) work′ heads′ nexts′ X
+    unfolding discoverIn
+    discover-takes e z l h work′ heads′ nexts′ key ew eh en =
+        rw (e, z, lt-ltb n (slotCount (length work)) l, ← key) (refl, (ew, (eh, (en, k))))
+
+    pub discover-lacks : lastBelow work v n ≡ Nothing → allZero (v .counters) ≡ false → slotCount (length work) ≤ n
+        → Leaves (discoverIn work heads nexts n p a v) (Full n) work heads nexts X
+    unfolding discoverIn
+    discover-lacks e z l = rw (e, z, le-ltb n (slotCount (length work)) l) (refl, (refl, (refl, (refl, k))))
+
+  by-becomes : length (v .counters) ≡ maxStates → (A B : Automaton) (b : ℕ) (f : Found) → lastBelow work v n ≡ f → (z : Bool)
+      → allZero (v .counters) ≡ z → (c : Bool) → ltb n (slotCount (length work)) ≡ c
+      → Becomes work n (discoverBy f z c work heads nexts n p a v .work) (discoverBy f z c work heads nexts n p a v .answer)
+      (λ S w. discover (lagGraph A B b) (below S) p w (a, v))
+  by-becomes wide A B b (At i) e z ez c ec = λ start ns S. discover-known A B b work n start ns S p a v i e
+  by-becomes wide A B b Nothing e true ez c ec = λ start ns S. discover-final A B b work n start ns S p a v e ez
+  by-becomes wide A B b Nothing e false ez true ec =
+      λ start ns S. discover-with-slot A B b work n start ns S p a v e ez (ltb-true n (slotCount (length work)) ec) wide
+  by-becomes wide A B b Nothing e false ez false ec =
+      λ start ns S. discover-full A B b work n start ns S p a v e ez (ltb-false n (slotCount (length work)) ec)
+
+  by-ready : length (v .counters) ≡ maxStates → Ready work heads nexts n → v .left < maxStates → (f : Found) (z c : Bool)
+      → ltb n (slotCount (length work)) ≡ c
+      → ReadyAfter (discoverBy f z c work heads nexts n p a v .answer) (discoverBy f z c work heads nexts n p a v .work)
+      (discoverBy f z c work heads nexts n p a v .heads) (discoverBy f z c work heads nexts n p a v .nexts)
+  by-ready wide R l (At i) z c ec = R
+  by-ready wide R l Nothing true c ec = tt
+  by-ready wide R l Nothing false true ec =
+      ready-with-slot work heads nexts n a p v R (ltb-true n (slotCount (length work)) ec) l wide
+  by-ready wide R l Nothing false false ec = tt
+
+  -- the list with the successor is represented, and what the next one needs is there
+  pub discover-represents : Ready work heads nexts n → v .left < maxStates → {r : Walked} {work′ heads′ nexts′ : List ℕ}
+      → Leaves (discoverIn work heads nexts n p a v) r work′ heads′ nexts′ (length (v .counters) ≡ maxStates)
+      → ((A B : Automaton) (b : ℕ) → Becomes work n work′ r (λ S w. discover (lagGraph A B b) (below S) p w (a, v)))
+      × ReadyAfter r work′ heads′ nexts′
+  unfolding discoverIn
+  discover-represents R l k =
+      let wide = k .1 .1 .1 .1 in
+      let f = lastBelow work v n in
+      let z = allZero (v .counters) in
+      let c = ltb n (slotCount (length work)) in
+      rw (k .0, k .1 .0, k .1 .1 .0, k .1 .1 .1 .0) (λ A B b. by-becomes wide A B b f refl z refl c refl, by-ready wide R l f z c refl)
 
 pub ready-none : (work heads nexts : List ℕ) → Indexed work heads nexts 0 → Ready work heads nexts 0
 ready-none work heads nexts I = record { room = omega arith; index = I; lefts = λ s h. absurd (omega arith) }

@@ -1,12 +1,13 @@
 -- `contain::compare` meets its contract: the walk's answer tells which walk it was, and the word of a final vertex is the walk's word.
 -- Assumes nothing.
-use mathlib.Core.Path.{_≡_, sym, ap, _∙_}
+use mathlib.Core.Path.{sym, ap, _∙_}
 use Prim.Native.Nat.{ℕ}
 use lib.ListN.{length}
 use borrow.Author.Needs.{needs}
 use Rattle.slots.specs.Slots.{slotCount}
-use Rattle.graph.specs.Walks.{walkOf}
+use Rattle.graph.specs.Walks.{walkOf, wordAfter}
 use Rattle.answers.specs.Contain.{differing, comparing}
+use Rattle.walk.proofs.FinalWords.{parent-slot, parents-fall, final-word-is}
 use Rattle.contain.proofs.WalkAnswers.{ended-at, contained-outcome, full-outcome, found-final, ended-outcome, ended-word}
 use Rattle.contain.proofs.compare.Statement.{statement}
 use Rattle.contain.proofs.compare.Tie as tie
@@ -25,8 +26,10 @@ final-word-requires c κs =
     let a = c .before .before .before .before .before .before .before .before .before .before .before .args in
     let k = c .before .before .before .before .before .before .before .walk in
     let g = c .before .before .before .place .given in
+    let E =
     found-final (a .left) (a .right) (a .bound) (a .work .now) _ _ _ _ (c .before .before .before .before .before .before .before .before .before .before .before .pre .0) (k .ensures .1)
-    (ended-at (slotCount (length (a .work .now))) (walkOf (a .left) (a .right) (a .bound) (slotCount (length (a .work .now)))) (g .0 .0) (g .0 .1 .0) (g .0 .1 .1 .0) (sym (g .1) ∙ k .ensures .0))
+    (ended-at (slotCount (length (a .work .now))) (walkOf (a .left) (a .right) (a .bound) (slotCount (length (a .work .now)))) (g .0 .0) (g .0 .1 .0) (g .0 .1 .1 .0) (sym (g .1) ∙ k .ensures .0)) in
+    λ h. (parent-slot _ _ _ _ E h, parents-fall _ _ _ _ E h)
 
 differing-requires : tie.Need-differing-requires
 differing-requires c κs = search needs
@@ -60,11 +63,13 @@ returns-2 c =
     let g = c .before .before .before .before .before .before .before .place .given in
     let f = ended-at (slotCount (length (a .work .now))) (walkOf (a .left) (a .right) (a .bound) (slotCount (length (a .work .now)))) (g .0 .0) (g .0 .1 .0) (g .0 .1 .1 .0) (sym (g .1) ∙ k .ensures .0) in
     let x = c .before .before .before .final-word in
-    let r = x .ensures (found-final (a .left) (a .right) (a .bound) (a .work .now) _ _ _ _ (c .before .before .before .before .before .before .before .before .before .before .before .before .before .before .before .pre .0) (k .ensures .1) f) in (
+    let r =
+    final-word-is _ _ _ _
+    (found-final (a .left) (a .right) (a .bound) (a .work .now) _ _ _ _ (c .before .before .before .before .before .before .before .before .before .before .before .before .before .before .before .pre .0) (k .ensures .1) f) in (
       c .differing .ensures
           ∙ (ap (λ (m : ℕ). differing m (g .0 .0) (x .result)) (x .kept .1 .1 .1 .1 .0)
-          ∙ ended-outcome (a .left) (a .right) (a .bound) (slotCount (length (a .work .now))) (length (a .word .now)) (x .result) (walkOf (a .left) (a .right) (a .bound) (slotCount (length (a .work .now)))) f (r .count)),
-      (k .ensures .1, ended-word (a .left) (a .right) (a .bound) (slotCount (length (a .work .now))) (a .word .now) _ (walkOf (a .left) (a .right) (a .bound) (slotCount (length (a .work .now)))) f (r .letters)),
+          ∙ ended-outcome (a .left) (a .right) (a .bound) (slotCount (length (a .work .now))) (length (a .word .now)) (x .result) (walkOf (a .left) (a .right) (a .bound) (slotCount (length (a .work .now)))) f (x .ensures .0 ∙ ap length r)),
+      (k .ensures .1, ended-word (a .left) (a .right) (a .bound) (slotCount (length (a .work .now))) (a .word .now) _ (walkOf (a .left) (a .right) (a .bound) (slotCount (length (a .work .now)))) f (x .ensures .1 ∙ ap (wordAfter (a .word .now)) r)),
     )
 
 same-length-4 : tie.Need-same-length-4

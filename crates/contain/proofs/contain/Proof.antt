@@ -1,6 +1,5 @@
 -- `contain::contain` meets its contract: a file that cannot be read stops the call, and of two automata `decide` decides; demands 1
 -- and 2 are the chapter's theorems. Assumes nothing.
-use mathlib.Core.Path.{_≡_, refl, sym, ap, _∙_}
 use borrow.Author.Needs.{needs}
 use Rattle.file.proofs.Readings.{reading-holds, reading-refuses, reading-in-range}
 use Rattle.contain.proofs.Decisions.{refusing-gives, same-gives, first-file-refuses, second-file-refuses, files-read}

@@ -1,6 +1,6 @@
 -- `contain::decide` meets its contract: each check that refuses is the definition's, and past the last one the walk decides.
 -- Assumes nothing.
-use mathlib.Core.Path.{_≡_, refl, sym, ap, _∙_}
+use mathlib.Core.Path.{sym, _∙_}
 use borrow.Author.Needs.{needs}
 use Rattle.contain.proofs.Decisions.{refusing-gives, walk-gives, bound-refuses, letters-refuse, first-dead-refuses, second-dead-refuses, checks-pass}
 use Rattle.contain.proofs.decide.Statement.{statement}

@@ -1,4 +1,4 @@
--- `slots::is_final` meets its contract: the test slot_has so far exactly if the counters before the present one are 0. Assumes nothing.
+-- `slots::is_final` meets its contract: the test holds so far exactly if the counters before the present one are 0. Assumes nothing.
 use mathlib.Core.Path.{_≡_, refl, _∙_}
 use Prim.Native.Nat.{_-_, _≤_}
 use native.Mathlib.Omega.{arith}

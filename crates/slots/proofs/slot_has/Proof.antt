@@ -1,4 +1,4 @@
--- `slots::slot_has` meets its contract: the test slot_has so far exactly if the counters before the present one are those of the slot.
+-- `slots::slot_has` meets its contract: the test holds so far exactly if the counters before the present one are those of the slot.
 -- Assumes nothing.
 use mathlib.Core.Path.{_≡_, refl, sym, _∙_}
 use Prim.Native.Nat.{_+_, _*_, _-_, _≤_}

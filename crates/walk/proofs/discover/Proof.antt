@@ -1,9 +1,10 @@
 -- `walk::discover` meets its contract: the search tells whether the vertex is listed, and the tests after it decide among final, slot written
 -- and no slot left. Assumes nothing.
 use mathlib.Core.Path.{sym, _∙_}
+use native.Mathlib.Omega.{arith}
 use borrow.Author.Needs.{needs}
 use Rattle.walk.specs.Representation.{vertexOf}
-use Rattle.walk.proofs.RepresentedSlots.{discover-known, discover-final, discover-full, discover-with-slot, ready-with-slot}
+use Rattle.walk.proofs.RepresentedSlots.{discover-has, discover-ends, discover-takes, discover-lacks}
 use Rattle.walk.proofs.discover.Statement.{statement}
 use Rattle.walk.proofs.discover.Tie as tie
 
@@ -37,7 +38,8 @@ returns c =
     let a = f .before .before .before .before .before .before .before .before .before .args in
     let g = sym (f .find .ensures) ∙ c .before .before .before .enum-told2 .given .1 in
     let z = sym (c .before .is-final .ensures) ∙ c .if1 .taken in
-    (λ A B b start ns S. discover-final A B b (a .work .now) (a .n) start ns S (a .p) (a .letter) (vertexOf (a .left) (a .counters .now)) g z, tt)
+    let l = f .before .before .before .before .vertex-hash .ensures .2 in
+    discover-ends (a .work .now) (a .heads .now) (a .nexts .now) (a .n) (a .p) (a .letter) (vertexOf (a .left) (a .counters .now)) l g z
 
 slot-count-requires : tie.Need-slot-count-requires
 slot-count-requires c κs = search needs
@@ -47,7 +49,8 @@ append-requires c κs =
     let t = c .before .before .before .before in
     let s = c .before .before .before .before .before .before .before .before .before .before .before .before .before .before .before .before .before .before .before .before in
     let h = c .before .before .before .before .before .before .before .before .before .before .before .before .before .before .before .vertex-hash .ensures in
-    (rw (t .before .slot-count .ensures) at (t .if2 .taken), s .pre .2, h .0, h .1, s .pre .0 .index)
+    let free = rw (t .before .slot-count .ensures) at (t .if2 .taken) in
+    (free, s .pre .2, omega (arith, h .1, s .pre .1 .heads-long), omega (arith, free, s .pre .1 .nexts-long))
 
 add-t36 : tie.Need-add-t36
 add-t36 c = search needs
@@ -64,10 +67,10 @@ same-length-6 c = search needs
 returns-2 : tie.Need-returns-2
 returns-2 c =
     let f = c .before .before in
-    let s = f .before .before .before .before .before .before .before .before .before in
-    let a = s .args in
+    let a = f .before .before .before .before .before .before .before .before .before .args in
     let g = sym (f .find .ensures) ∙ c .enum-told .given .1 in
-    (λ A B b start ns S. discover-known A B b (a .work .now) (a .n) start ns S (a .p) (a .letter) (vertexOf (a .left) (a .counters .now)) _ g, s .pre .0)
+    let l = f .before .before .before .before .vertex-hash .ensures .2 in
+    discover-has (a .work .now) (a .heads .now) (a .nexts .now) (a .n) (a .p) (a .letter) (vertexOf (a .left) (a .counters .now)) l _ g
 
 same-length-7 : tie.Need-same-length-7
 same-length-7 c = search needs
@@ -83,18 +86,14 @@ returns-3 c =
     let t = c .before .before .before .before .before .before .before .before .before .before .before in
     let e = t .before .before in
     let f = e .before .before .before .before .before in
-    let s = f .before .before .before .before .before .before .before .before .before in
-    let a = s .args in
+    let a = f .before .before .before .before .before .before .before .before .before .args in
     let g = sym (f .find .ensures) ∙ e .before .before .before .enum-told2 .given .1 in
     let z = sym (e .before .is-final .ensures) ∙ e .if1 .left in
     let h = rw (t .before .slot-count .ensures) at (t .if2 .taken) in
-    let l = f .before .before .before .before .vertex-hash .ensures .2 in
-    let p = c .before .before .before .before .before .before .append .ensures in (
-      λ A B b start ns S. rw (p .0) (discover-with-slot A B b (a .work .now) (a .n) start ns S (a .p) (a .letter) (vertexOf (a .left) (a .counters .now)) g z h l),
-      rw (p .0)
-          (ready-with-slot (a .work .now) (a .heads .now) (a .nexts .now) _ _ (a .n) (a .letter) (a .p) (vertexOf (a .left) (a .counters .now)) (s .pre .0) h (s .pre .1) l
-          (rw (p .0) at (p .1))),
-    )
+    let k = f .before .before .before .before .vertex-hash in
+    let p = c .before .before .before .before .before .before .append .ensures in
+    discover-takes (a .work .now) (a .heads .now) (a .nexts .now) (a .n) (a .p) (a .letter) (vertexOf (a .left) (a .counters .now)) (k .ensures .2) g z h (k .result) _ _ _
+    (k .ensures .0) (p .0) (p .1 .0) (p .1 .1)
 
 same-length-10 : tie.Need-same-length-10
 same-length-10 c = search needs
@@ -113,7 +112,8 @@ returns-4 c =
     let g = sym (f .find .ensures) ∙ e .before .before .before .enum-told2 .given .1 in
     let z = sym (e .before .is-final .ensures) ∙ e .if1 .left in
     let h = rw (c .before .slot-count .ensures) at (c .if2 .left) in
-    (λ A B b start ns S. discover-full A B b (a .work .now) (a .n) start ns S (a .p) (a .letter) (vertexOf (a .left) (a .counters .now)) g z h, tt)
+    let l = f .before .before .before .before .vertex-hash .ensures .2 in
+    discover-lacks (a .work .now) (a .heads .now) (a .nexts .now) (a .n) (a .p) (a .letter) (vertexOf (a .left) (a .counters .now)) l g z h
 
 pub discover-spec : {M : Type 1} → statement M
 discover-spec =

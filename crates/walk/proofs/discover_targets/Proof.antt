@@ -1,5 +1,5 @@
 -- `walk::discover_targets` meets its contract. Before each target those that are still to come, discovered from the list that the work buffer
--- shows, make the walk of all of them. Assumes nothing.
+-- represents, make the walk of all of them. Assumes nothing.
 use mathlib.Core.Path.{_≡_, refl, _∙_}
 use mathlib.Core.Bool.{true}
 use Prim.Native.Nat.{ℕ, _-_, _+_, _≤_, _<_}
@@ -9,7 +9,9 @@ use Rattle.automaton.specs.Members.{transitionIn}
 use Rattle.automaton.specs.Sets.{bit, member}
 use Rattle.slots.specs.Bytes.{countersHash}
 use Rattle.automaton.proofs.Members.{next-from, next-to, next-holds}
-use Rattle.walk.proofs.FoldLoops.{Kept, TargetsToGo, other-stops, targets-start, targets-next, targets-stop, targets-end, target-part}
+use Rattle.step.proofs.Steps.{target-part}
+use Rattle.walk.proofs.RepresentedSlots.{discover-represents}
+use Rattle.walk.proofs.FoldLoops.{Kept, TargetsToGo, other-stops, targets-start, targets-next, targets-stop, targets-end}
 use Rattle.walk.proofs.discover_targets.Statement.{statement}
 use Rattle.walk.proofs.discover_targets.Tie as tie
 
@@ -65,8 +67,8 @@ discover-requires c κs =
     let i = h .before .loop .inv in
     let s = h .before .before .before .before .before .before .before in
     let a = s .args in (
-      i .7 .ready,
-      omega (arith, v .ensures .0, h .loop-test .taken),
+      i .7 .ready .room,
+      i .7 .ready .index,
       s .pre .1,
       target-part (member (a .accepting .now) (h .before .loop .t)) (a .step .lowered) (a .step .others) (v .result .counters) _ _ _ (i .2) (i .3) (k .target-hash .ensures) (v .ensures .1),
     )
@@ -98,11 +100,14 @@ returns c =
     let u = w .before .before .before .before .before .before .before .target-vertex in
     let l = h .before .loop in
     let s = h .before .before .before .before .before .before .before in
-    let a = s .args in (
+    let a = s .args in
+    let d =
+    discover-represents (l .work) (l .heads) (l .nexts) (l .listed) (a .p) (a .step .letter) (u .result) (l .inv .7 .ready)
+    (omega (arith, u .ensures .0, k)) (v .ensures) in (
       targets-stop (a .accepting .now) (a .transitions .now) (a .step) (s .pre .2) (s .pre .3) (a .p) (a .work .now) (a .n)
           (l .work) (l .listed) (l .t) (l .inv .8) k (l .inv .6 k) (u .result) (u .ensures .0) (u .ensures .1)
-          (v .last .0) (v .result) (v .ensures .0) (other-stops (v .result) (c .match .keys2)),
-      v .ensures .1,
+          (v .last .0) (v .result) (d .0) (other-stops (v .result) (c .match .keys2)),
+      d .1,
     )
 
 target-after-requires : tie.Need-target-after-requires Inv-loop μ-loop
@@ -131,7 +136,10 @@ loop-again c =
     let a = s .args in
     let g = c .before .before .seen .given .1 in
     let t = c .target-after in
-    let f = transitionIn (a .transitions .now) (a .step .left) (a .step .letter) in (
+    let f = transitionIn (a .transitions .now) (a .step .left) (a .step .letter) in
+    let d =
+    discover-represents (l .work) (l .heads) (l .nexts) (l .listed) (a .p) (a .step .letter) (u .result) (l .inv .7 .ready)
+    (omega (arith, u .ensures .0, k)) (v .ensures) in (
       refl,
       refl,
       l .inv .2,
@@ -143,11 +151,11 @@ loop-again c =
         work-long = v .kept .0 ∙ l .inv .7 .work-long;
         heads-long = v .kept .1 .0 ∙ l .inv .7 .heads-long;
         nexts-long = v .kept .1 .1 .0 ∙ l .inv .7 .nexts-long;
-        ready = rw g at (v .ensures .1);
+        ready = rw g at (d .1);
       },
       targets-next (a .accepting .now) (a .transitions .now) (a .step) (s .pre .2) (s .pre .3) (a .p) (a .work .now) (a .n)
           (l .work) (l .listed) (l .t) (l .inv .8) k (l .inv .6 k) (u .result) (u .ensures .0) (u .ensures .1)
-          (v .last .0) (v .result) (v .ensures .0) _ (t .result) g (t .ensures),
+          (v .last .0) (v .result) (d .0) _ (t .result) g (t .ensures),
     )
 
 same-length-4 : tie.Need-same-length-4 Inv-loop μ-loop

@@ -6,7 +6,7 @@ use native.Mathlib.Omega.{arith}
 use borrow.Author.Needs.{needs}
 use Rattle.automaton.specs.Automata.{maxStates}
 use Rattle.slots.specs.declared.Vertex.{Vertex}
-use Rattle.walk.specs.Representation.{PresentOf}
+use Rattle.step.specs.Steps.{PresentOf}
 use Rattle.walk.proofs.FoldLoops.{Kept, other-stops}
 use Rattle.walk.proofs.ExpandLoops.{LettersToGo, letters-start, letters-next, letters-stop, letters-end}
 use Rattle.walk.proofs.expand.Statement.{statement}

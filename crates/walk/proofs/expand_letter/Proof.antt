@@ -3,6 +3,7 @@
 use mathlib.Core.Path.{sym, _∙_}
 use native.Mathlib.Omega.{arith}
 use borrow.Author.Needs.{needs}
+use Rattle.step.proofs.Steps.{step-left, step-letter, step-hashes}
 use Rattle.walk.proofs.LeftTargets.{flags-needed}
 use Rattle.walk.proofs.ExpandLoops.{letter-done, letter-none}
 use Rattle.walk.proofs.expand_letter.Statement.{statement}
@@ -35,8 +36,8 @@ of-bytes-requires c κs = search needs
 meets-requires : tie.Need-meets-requires
 meets-requires c κs = search needs
 
-reach-beyond-requires : tie.Need-reach-beyond-requires
-reach-beyond-requires c κs = search needs
+exceeds-requires : tie.Need-exceeds-requires
+exceeds-requires c κs = search needs
 
 step-on-requires : tie.Need-step-on-requires
 step-on-requires c κs = search needs
@@ -44,14 +45,15 @@ step-on-requires c κs = search needs
 discover-targets-requires : tie.Need-discover-targets-requires
 discover-targets-requires c κs =
     let s = c .before .before .before .before .before .before .before .before .before .before .before .before .before .before .before .before .before .before .before .before in
-    let k = c .before .before .before .before .step-on .ensures in (
+    let k = c .before .before .before .before .step-on in
+    let hashes = step-hashes _ _ _ _ _ _ _ _ (k .result) (k .ensures) in (
       s .pre .0,
       s .pre .1,
-      omega (arith, k .0 .0, s .pre .2),
-      omega (arith, k .0 .1, s .pre .3, s .pre .4),
+      omega (arith, step-left _ _ _ _ _ _ _ _ (k .result) (k .ensures), s .pre .2),
+      omega (arith, step-letter _ _ _ _ _ _ _ _ (k .result) (k .ensures), s .pre .3, s .pre .4),
       s .pre .7,
-      k .1 .1 .0,
-      k .1 .1 .1,
+      hashes .0,
+      hashes .1,
     )
 
 same-length : tie.Need-same-length
@@ -71,10 +73,12 @@ returns-2 c =
     let k = h .step-on in
     let v = c .before .before .before .before .before .before .discover-targets in (
       letter-done (a .rules) (a .lefts .now) (a .masks .now) (a .v) (a .letter) (a .p) (a .work .now) (a .n)
-          (k .result) (k .ensures .0 .1) (s .pre .3) _ _
+          (h .before .before .before .meets .result) (h .before .before .exceeds .result) (k .result) (k .ensures) (s .pre .3) (omega (arith, s .pre))
+          (s .pre .6 .bytes)
           (flags-needed (a .lefts .now) (a .rules .left) (a .v .left) (a .letter) _ _ _ _
-          (h .before .before .before .before .before .before .row .ensures) (h .before .before .before .before .of-bytes .ensures) (h .before .before .before .meets .ensures) (h .before .before .reach-beyond .ensures))
-          (k .ensures .1 .0) (v .last .1 .1 .0) (v .result) (v .ensures .0),
+          (h .before .before .before .before .before .before .row .ensures) (h .before .before .before .before .of-bytes .ensures)
+          (h .before .before .before .meets .ensures) (h .before .before .exceeds .ensures))
+          (v .last .1 .1 .0) (v .result) (v .ensures .0),
       v .ensures .1,
     )
 
@@ -89,7 +93,7 @@ expand-letter-spec =
     row-requires
     of-bytes-requires
     meets-requires
-    reach-beyond-requires
+    exceeds-requires
     step-on-requires
     discover-targets-requires
     same-length

@@ -4,49 +4,36 @@ use Prim.Native.Nat.{_<_}
 use native.Mathlib.Omega.{arith}
 use borrow.Author.Needs.{needs}
 use Rattle.slots.proofs.Words.{word-short}
-use Rattle.walk.proofs.FinalWords.{parent-slot, parents-fall, read-none, read-short, read-written}
+use Rattle.walk.proofs.FinalWords.{read-none, read-short, read-written}
 use Rattle.walk.proofs.final_word.Statement.{statement}
 use Rattle.walk.proofs.final_word.Tie as tie
 
 returns : tie.Need-returns
 returns c =
     let a = c .before .before .before .args in
-    λ E. read-none (a .work .now) (a .place) (a .letter) (a .parent) E (a .word .now) (c .if1 .taken)
+    read-none (a .work .now) (a .place) (a .letter) (a .parent) (a .word .now) (c .if1 .taken)
 
 word-length-requires : tie.Need-word-length-requires
-word-length-requires c κs =
-    let s = c .before .before .before in
-    let a = s .args in
-    let h : 0 < a .place = omega (arith, c .if1 .left) in (
-      parent-slot (a .work .now) (a .place) (a .letter) (a .parent) (s .pre) h,
-      parents-fall (a .work .now) (a .place) (a .letter) (a .parent) (s .pre) h,
-    )
+word-length-requires c κs = c .before .before .before .pre (omega (arith, c .if1 .left))
 
 add-result : tie.Need-add-result
 add-result c =
     let s = c .before .before .before .before .before in
     let a = s .args in
-    let h : 0 < a .place = omega (arith, c .before .before .if1 .left) in
-    let f = parents-fall (a .work .now) (a .place) (a .letter) (a .parent) (s .pre) h in
-    let k = parent-slot (a .work .now) (a .place) (a .letter) (a .parent) (s .pre) h in
-    omega (arith, c .before .word-length .ensures, k, word-short (a .work .now) (a .parent) (a .parent) (omega arith) f)
+    let p = s .pre (omega (arith, c .before .before .if1 .left)) in
+    omega (arith, c .before .word-length .ensures, p .0, word-short (a .work .now) (a .parent) (a .parent) (omega arith) (p .1))
 
 returns-2 : tie.Need-returns-2
 returns-2 c =
     let w = c .before .word-length in
     let a = c .before .before .before .before .before .args in
     let h : 0 < a .place = omega (arith, c .before .before .if1 .left) in
-    λ E. read-short (a .work .now) (a .place) (a .letter) (a .parent) E (a .word .now) (w .result) h (w .ensures) (c .if2 .taken)
+    read-short (a .work .now) (a .place) (a .letter) (a .parent) (a .word .now) (w .result) h (w .ensures) (c .if2 .taken)
 
 read-back-requires : tie.Need-read-back-requires
 read-back-requires c κs =
-    let s = c .before .before .before .before .before .before in
-    let a = s .args in
-    let h : 0 < a .place = omega (arith, c .before .before .before .if1 .left) in (
-      parent-slot (a .work .now) (a .place) (a .letter) (a .parent) (s .pre) h,
-      parents-fall (a .work .now) (a .place) (a .letter) (a .parent) (s .pre) h,
-      omega (arith, c .before .before .word-length .ensures, c .before .if2 .left),
-    )
+    let p = c .before .before .before .before .before .before .pre (omega (arith, c .before .before .before .if1 .left)) in
+    (p .0, p .1, omega (arith, c .before .before .word-length .ensures, c .before .if2 .left))
 
 slice-write-word : tie.Need-slice-write-word
 slice-write-word c = omega (
@@ -71,7 +58,7 @@ returns-3 c =
     let k = c .before .before .read-back in
     let a = e .before .before .before .before .before .args in
     let h : 0 < a .place = omega (arith, e .before .before .if1 .left) in
-    λ E. read-written (a .work .now) (a .place) (a .letter) (a .parent) E (a .word .now) (w .result) h (w .ensures) (e .if2 .left)
+    read-written (a .work .now) (a .place) (a .letter) (a .parent) (a .word .now) (w .result) h (w .ensures) (e .if2 .left)
     (k .last .1 .1 .0) (k .result) (k .ensures .0) (k .ensures .1)
 
 pub final-word-spec : {M : Type 1} → statement M

@@ -5,10 +5,12 @@ use native.Mathlib.Omega.{arith}
 use borrow.Author.Needs.{needs}
 use Rattle.automaton.specs.Automata.{maxStates}
 use Rattle.slots.specs.declared.Vertex.{Vertex}
+use Rattle.slots.specs.Slots.{noLetter, noParent}
 use Rattle.slots.proofs.Chains.{index-none}
 use Rattle.graph.specs.LagGraph.{initialVertex}
+use Rattle.step.proofs.MaskRows.{masks-after}
 use Rattle.walk.specs.Representation.{RulesOf}
-use Rattle.walk.proofs.RepresentedSlots.{ready-none}
+use Rattle.walk.proofs.RepresentedSlots.{ready-none, discover-represents}
 use Rattle.walk.proofs.FoldLoops.{other-stops}
 use Rattle.walk.proofs.ExpandLoops.{walk-stop, walk-on}
 use Rattle.walk.proofs.walk.Statement.{statement}
@@ -29,16 +31,20 @@ slice-aggregate-discover c = search needs
 slice-aggregate-discover-2 : tie.Need-slice-aggregate-discover-2
 slice-aggregate-discover-2 c = search needs
 
-discover-requires : tie.Need-discover-requires
+first-below : (c : tie.After-initial-vertex) → c .initial-vertex .result .left < maxStates
 unfolding initialVertex
-discover-requires c κs =
-    let s = c .before .before .before .before .before .before .before .before .before in (
-      ready-none (s .args .work .now) _ _ (index-none (s .args .work .now)),
-      subst (λ (v : Vertex). v .left < maxStates) (sym (c .before .before .before .before .before .before .initial-vertex .ensures))
-          (omega (arith, s .pre .0 .initial-below, s .pre .0 .few-states)),
-      omega arith,
-      c .before .before .before .before .counters-hash .ensures,
-    )
+first-below c =
+    let s = c .before .before .before in
+    subst (λ (v : Vertex). v .left < maxStates) (sym (c .initial-vertex .ensures))
+    (omega (arith, s .pre .0 .initial-below, s .pre .0 .few-states))
+
+discover-requires : tie.Need-discover-requires
+discover-requires c κs = (
+  omega arith,
+  index-none (c .before .before .before .before .before .before .before .before .before .args .work .now),
+  omega arith,
+  c .before .before .before .before .counters-hash .ensures,
+)
 
 enum-known-seen : tie.Need-enum-known-seen
 enum-known-seen c = search needs
@@ -52,8 +58,11 @@ returns c =
     let v = w .discover in
     let i = w .before .before .before .before .before .before .before .initial-vertex in
     let a = w .before .before .before .before .before .before .before .before .before .before .args in
+    let n =
+    discover-represents (a .work .now) _ _ 0 noParent noLetter (i .result) (ready-none (a .work .now) _ _ (index-none (a .work .now)))
+    (first-below (w .before .before .before .before .before .before .before)) (v .ensures) in
     let d =
-    walk-stop (a .t1) (a .t2) (a .bound) (i .result) (i .ensures) (a .work .now) (v .last .0) (v .result) (v .ensures .0)
+    walk-stop (a .t1) (a .t2) (a .bound) (i .result) (i .ensures) (a .work .now) (v .last .0) (v .result) (n .0)
     (other-stops (v .result) (c .match .keys2)) in
     (d .answer, d .bytes)
 
@@ -77,8 +86,13 @@ expand-all-requires c κs =
     let w = c .before .before .before .before .before .before .before .before .before .before .before .before .before .before .before .before .before .before .before .before in
     let g = c .before .before .before .before .before .before .before .before .before .before .before .before .before .before .seen .given .1 in
     let e = w .before .before .before .before .before .before .before .before .rules-of .ensures in
-    let s = w .before .before .before .before .before .before .before .before .before .before in (
-      rw g at (w .discover .ensures .1),
+    let s = w .before .before .before .before .before .before .before .before .before .before in
+    let i = w .before .before .before .before .before .before .before in
+    let work = s .args .work .now in
+    let n =
+    discover-represents work _ _ 0 noParent noLetter (i .initial-vertex .result) (ready-none work _ _ (index-none work)) (first-below i)
+    (w .discover .ensures) in (
+      rw g at (n .1),
       omega (arith, e .0, s .pre .0 .few-letters),
       omega (arith, e .1, s .pre .1 .few-states),
       c .before .before .before .before .before .before .before .least-members .ensures,
@@ -98,15 +112,21 @@ returns-2 c =
     let a = s .args in
     let t = c .before .before .before .before .expand-all in
     let f = c .before .before .before .before .before .before .before .before .before .before .before .before .before .before .fill in
+    let masks =
+    masks-after (a .t2 .transitions) (a .t2 .states) (s .pre .1 .few-states) _ (a .t1 .letters) (f .last .0)
+    (omega (arith, s .pre .0 .few-letters)) (f .ensures) in
     let R : RulesOf (rules .result) (a .t1 .transitions) (f .last .0) (a .t1) (a .t2) (a .bound) =
     record {
       letters-are = e .0;
       top-is = e .2;
       left = record { accepting-is = e .3; transitions-are = refl; in-range = s .pre .0 };
-      right = record { accepting-is = e .4; states-are = e .1; masks-are = λ a p r h k i. f .ensures a p r (omega (arith, e .0)) (omega (arith, e .1)) i; in-range = s .pre .1 };
+      right = record { accepting-is = e .4; states-are = e .1; masks-are = λ a p r h k i. masks a p r (omega (arith, e .0)) (omega (arith, e .1)) i; in-range = s .pre .1 };
     } in
+    let n =
+    discover-represents (a .work .now) _ _ 0 noParent noLetter (i .result) (ready-none (a .work .now) _ _ (index-none (a .work .now)))
+    (first-below (w .before .before .before .before .before .before .before)) (v .ensures) in
     let d =
-    walk-on (a .t1) (a .t2) (a .bound) (i .result) (i .ensures) (a .work .now) (v .last .0) (v .result) (v .ensures .0) _
+    walk-on (a .t1) (a .t2) (a .bound) (i .result) (i .ensures) (a .work .now) (v .last .0) (v .result) (n .0) _
     (c .before .before .before .before .before .before .before .before .before .before .before .before .before .before .before .before .before .before .before .seen .given .1) (rules .result)
     (a .t1 .transitions) (f .last .0) R (t .last .1 .1 .1 .0) (t .result) (t .ensures) in
     (d .answer, d .bytes)

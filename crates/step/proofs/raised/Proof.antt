@@ -1,0 +1,83 @@
+-- `step::raised` meets its contract. The counters below the present one are raised, the others are as they were. Assumes nothing.
+use mathlib.Core.Path.{_≡_, refl, _∙_, ap₂}
+use Prim.Native.Nat.{ℕ, _+_, _-_, _≤_, _<_, max, min}
+use native.Mathlib.Omega.{arith}
+use borrow.Author.Count.{below-none}
+use borrow.Author.Needs.{needs}
+use lib.ListN.{length, getD, length-set}
+use lib.Seq.{getD-set-other}
+use Rattle.step.proofs.SteppedBytes.{table-is, table-more}
+use Rattle.step.proofs.raised.Statement.{statement}
+use Rattle.step.proofs.raised.Tie as tie
+
+abbrev Inv-loop : tie.InvT-loop
+Inv-loop masks at counter after₀ r₀ after r = (r ≤ 32) × (length after ≡ 32)
+    × ((k : ℕ) → k < r → getD after k 0 ≡ max (getD after₀ k 0) (min counter (getD masks (at + k) 0)))
+    × ((k : ℕ) → r ≤ k → getD after k 0 ≡ getD after₀ k 0)
+
+abbrev μ-loop : tie.MeasureT-loop
+μ-loop masks at counter after₀ r₀ after r = 32 - r
+
+loop-holds : tie.Need-loop-holds Inv-loop μ-loop
+loop-holds c = (search needs, search needs, below-none _, λ k h. refl)
+
+array-read-larger : tie.Need-array-read-larger Inv-loop μ-loop
+array-read-larger c = search needs
+
+add-masked : tie.Need-add-masked Inv-loop μ-loop
+add-masked c = search needs
+
+element-copy-out-masked : tie.Need-element-copy-out-masked Inv-loop μ-loop
+element-copy-out-masked c = search needs
+
+masked-requires : tie.Need-masked-requires Inv-loop μ-loop
+masked-requires c κs = search needs
+
+larger-requires : tie.Need-larger-requires Inv-loop μ-loop
+larger-requires c κs = search needs
+
+array-write-after : tie.Need-array-write-after Inv-loop μ-loop
+array-write-after c = search needs
+
+add-r : tie.Need-add-r Inv-loop μ-loop
+add-r c = search needs
+
+loop-less : tie.Need-loop-less Inv-loop μ-loop
+loop-less c = search needs
+
+loop-again : tie.Need-loop-again Inv-loop μ-loop
+loop-again c =
+    let l = c .before .before .before .before .loop in
+    let a = c .before .before .before .before .before .args in
+    let m = c .before .masked .ensures in (
+      search needs,
+      length-set (l .after) _ _ ∙ l .inv .1,
+      table-more (λ k. max (getD (a .largest) k 0) (min (a .counter) (getD (a .masks .now) (a .at + k) 0))) (l .after) (l .r) _
+          (omega arith) (l .inv .2) (c .larger .ensures ∙ ap₂ max (l .inv .3 (l .r) (omega arith)) m),
+      λ k h. getD-set-other (l .after) (l .r) k _ 0 (λ e. absurd (omega arith)) ∙ l .inv .3 k (omega arith),
+    )
+
+returns : tie.Need-returns Inv-loop μ-loop
+returns c =
+    let l = c .before .loop in
+    let a = c .before .before .args in
+    table-is (λ k. max (getD (a .largest) k 0) (min (a .counter) (getD (a .masks .now) (a .at + k) 0))) (l .after) 32 (l .inv .1)
+    (λ k h. l .inv .2 k (omega arith))
+
+pub raised-spec : {M : Type 1} → statement M
+raised-spec =
+    tie.close
+    (tie.spec
+    Inv-loop
+    μ-loop
+    loop-holds
+    array-read-larger
+    add-masked
+    element-copy-out-masked
+    masked-requires
+    larger-requires
+    array-write-after
+    add-r
+    loop-less
+    loop-again
+    returns)
