@@ -7,3 +7,4 @@ pub mod InRange
 pub mod Bits
 pub mod EqualAutomata
 pub mod Rank
+pub mod Heads

@@ -5,16 +5,19 @@
 --   transitionCount A      the number of transitions
 --   bare n k i             n states, k letters, initial state i, nothing accepting and no transition
 --   withAccepting, withTransition   one accepting state, one transition more
+--   headOf A               the automaton without its transitions
+--   wholeOf h t            the automaton with the head h and the transitions t
 --   InRange A, inRange A   the header's numbers are those that a file may have, and no bit is set for a state or a letter that they
 --                          leave out: said, and computed
 -- Shown by `in-range-iff`: the two say the same. By `equal-automata` an automaton in range is known by its header, its accepting states and its
--- transitions. Assumes nothing.
+-- transitions; by `whole-of-head` an automaton is its head with its transitions. Assumes nothing.
 use mathlib.Core.Bool.{Bool, true, false, _&&_, _||_, not}
 use mathlib.Core.List.{List}
 use Prim.Native.Nat.{ℕ, _+_, _*_, _/_, _%_, _≤_, _<_}
 use lib.Dec.{T, leb, ltb}
 use lib.ListN.{getD, set, replicate}
 use Rattle.automaton.specs.declared.Automaton.{Automaton}
+use Rattle.automaton.specs.declared.Head.{Head}
 use Rattle.automaton.specs.Ranges.{some, those, total}
 use Rattle.automaton.specs.Sets.{bit, withBit, member}
 
@@ -73,6 +76,13 @@ withTransition A q a r =
       accepting = A .accepting;
       transitions = set (A .transitions) (place q a r) (withBit (getD (A .transitions) (place q a r) 0) (r % 8));
     }
+
+abbrev pub headOf : Automaton → Head
+headOf A = record { states = A .states; letters = A .letters; initial = A .initial; accepting = A .accepting }
+
+abbrev pub wholeOf : Head → List ℕ → Automaton
+wholeOf h t =
+    record { states = h .states; letters = h .letters; initial = h .initial; accepting = h .accepting; transitions = t }
 
 -- a header's three numbers are in their ranges; the initial state is one of the n states
 unfoldable pub headerValues : ℕ → ℕ → ℕ → Bool

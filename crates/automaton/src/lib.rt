@@ -1,6 +1,6 @@
 // A Büchi automaton as a value: equal values are equal automata, since the bits of states and letters that it lacks are zero.
 ghost use mathlib.Core.Path.{_≡_};
-ghost use Rattle.automaton.specs.Automata.{headerValues, bare};
+ghost use Rattle.automaton.specs.Automata.{headerValues, bare, headOf};
 
 mod sets;
 mod targets;
@@ -33,6 +33,14 @@ pub struct Automaton {
     pub transitions: [u8; 2048],
 }
 
+// An automaton without its transitions, which are lent beside it.
+pub struct Head {
+    pub states: usize,
+    pub letters: usize,
+    pub initial: usize,
+    pub accepting: [u8; 4],
+}
+
 // Whether a header's three numbers are in their ranges.
 pub fn header_values(states: usize, letters: usize, initial: usize) -> bool
     ensures { λ r. ⌜ r ≡ headerValues states letters initial ⌝ }
@@ -54,5 +62,18 @@ pub fn bare(states: usize, letters: usize, initial: usize) -> Automaton
         initial,
         accepting: [0; 4],
         transitions: [0; 2048],
+    }
+}
+
+// The automaton without its transitions.
+pub fn head_of(a: Automaton) -> Head
+    ensures { λ r. ⌜ r ≡ headOf a ⌝ }
+{
+    let accepting = a.accepting;
+    Head {
+        states: a.states,
+        letters: a.letters,
+        initial: a.initial,
+        accepting,
     }
 }

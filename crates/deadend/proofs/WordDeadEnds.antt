@@ -4,7 +4,7 @@ use mathlib.Core.Path.{_≡_, refl, sym, ap, ap₂, _∙_}
 use mathlib.Core.Bool.{Bool, true, false, _&&_, _||_, not}
 use mathlib.Core.Logic.{⊎-elim}
 use mathlib.Core.List.{List}
-use Prim.Native.Nat.{ℕ, _+_, _*_, _/_, _≤_, _<_}
+use Prim.Native.Nat.{ℕ, _≤_, _<_}
 use native.Mathlib.Omega.{arith}
 use lib.Dec.{eqb, ltb, eqb→eq}
 use lib.ListN.{getD}
@@ -31,15 +31,13 @@ module _ (A : Automaton) (c : InRange A) where
       sym (ap (λ (b : Bool). b && transitionBit A q a r) (T-true (inHeader A q a r) (in-header-iff A q a r .1 (hq, ha, hr))))
 
   module _ (rows : List ℕ)
-      (e-rows : (q r : ℕ) → q < A .states
-      → rowHas rows q r ≡ (ltb r ((A .states + 7) / 8 * 8) && some (λ a. transitionIn (A .transitions) q a r) (A .letters) 0)) where
+      (e-rows : (q r : ℕ) → q < A .states → r < 32
+      → rowHas rows q r ≡ some (λ a. transitionIn (A .transitions) q a r) (A .letters) 0) where
     edge-at : (q r : ℕ) → q < A .states → r < A .states → rowHas rows q r ≡ edge A q r
     unfolding edge
     edge-at q r hq hr =
-        e-rows q r hq
-        ∙ ap (λ (b : Bool). b && some (λ a. transitionIn (A .transitions) q a r) (A .letters) 0)
-        (lt-ltb r ((A .states + 7) / 8 * 8) (omega arith))
-        ∙ some-same _ _ (A .letters) (λ a ha. transition-at q a r hq ha hr)
+        let few = c .few-states in
+        e-rows q r hq (omega arith) ∙ some-same _ _ (A .letters) (λ a ha. transition-at q a r hq ha hr)
 
     edges-table : relation (A .states) (rowHas rows) ≡ relation (A .states) (edge A)
     unfolding relation

@@ -1,31 +1,64 @@
--- What the reader's struct says of the file: with refusal 0 it holds the file's automaton, and any other number is the file's refusal.
+-- What the reader's answers say of the file: with refusal 0 they hold the file's automaton, and any other number is the file's refusal.
 -- Assumes nothing.
-use mathlib.Core.Path.{_≡_, refl, ap, _∙_}
+use mathlib.Core.Path.{_≡_, refl, sym, ap, _∙_}
 use mathlib.Core.List.{List}
 use Prim.Native.Nat.{ℕ}
 use native.Mathlib.Omega.{arith}
-use Rattle.automaton.specs.Automata.{InRange}
+use Rattle.automaton.specs.Automata.{InRange, wholeOf}
 use Rattle.file.specs.declared.Reading.{Reading}
+use Rattle.file.specs.declared.Begun.{Begun}
 use Rattle.format.specs.File.{Read, refused, holds, readFile}
-use Rattle.file.specs.Taking.{readingOf}
+use Rattle.file.specs.Taking.{automatonRead, refusalOf, readingOf}
 use Rattle.format.proofs.FileLaws.{file-refusals, file-in-range}
+use Rattle.file.proofs.LeftAutomata.{held-automaton}
+
+-- The file.
+
+module _ (s : List ℕ) where
+  read-holds : refusalOf (readFile s) ≡ 0 → readFile s ≡ holds (automatonRead s)
+  read-holds z = go (readFile s) refl
+    where
+      go : (x : Read) → readFile s ≡ x → readFile s ≡ holds (automatonRead s)
+      go (refused n) e = absurd (omega (arith, file-refusals s n e .0, sym (ap refusalOf e) ∙ z))
+      go (holds A) e = e ∙ ap holds (sym (held-automaton s A e))
+
+  read-refuses : (refusalOf (readFile s) ≡ 0 → ⊥) → readFile s ≡ refused (refusalOf (readFile s))
+  read-refuses z = go (readFile s) refl
+    where
+      go : (x : Read) → readFile s ≡ x → readFile s ≡ refused (refusalOf (readFile s))
+      go (refused n) e = e ∙ ap refused (sym (ap refusalOf e))
+      go (holds A) e = absurd (z (ap refusalOf e))
+
+-- The answer of `read`.
 
 module _ (s : List ℕ) (r : Reading) (is : r ≡ readingOf (readFile s)) where
-  pub reading-holds : r .refusal ≡ 0 → readFile s ≡ holds (r .automaton)
-  reading-holds z = go (readFile s) refl
+  number : r .refusal ≡ refusalOf (readFile s)
+  number = ap (λ (y : Reading). y .refusal) is ∙ go (readFile s)
     where
-      go : (x : Read) → readFile s ≡ x → readFile s ≡ holds (r .automaton)
-      go (refused n) e =
-          let n-is : r .refusal ≡ n = ap (λ (y : Reading). y .refusal) (is ∙ ap readingOf e) in
-          absurd (omega (arith, file-refusals s n e .0))
-      go (holds A) e = let A-is = ap (λ (y : Reading). y .automaton) (is ∙ ap readingOf e) in e ∙ cc
+      go : (x : Read) → readingOf x .refusal ≡ refusalOf x
+      go (refused n) = refl
+      go (holds A) = refl
+
+  pub reading-holds : r .refusal ≡ 0 → readFile s ≡ holds (r .automaton)
+  reading-holds z =
+      let e = read-holds s (sym number ∙ z) in
+      e ∙ ap holds (sym (ap (λ (y : Reading). y .automaton) (is ∙ ap readingOf e)))
 
   pub reading-refuses : (r .refusal ≡ 0 → ⊥) → readFile s ≡ refused (r .refusal)
-  reading-refuses z = go (readFile s) refl
-    where
-      go : (x : Read) → readFile s ≡ x → readFile s ≡ refused (r .refusal)
-      go (refused n) e = let n-is = ap (λ (y : Reading). y .refusal) (is ∙ ap readingOf e) in e ∙ cc
-      go (holds A) e = absurd (z (ap (λ (y : Reading). y .refusal) (is ∙ ap readingOf e)))
+  reading-refuses z = read-refuses s (λ e. z (number ∙ e)) ∙ ap refused (sym number)
 
   pub reading-in-range : r .refusal ≡ 0 → InRange (r .automaton)
   reading-in-range z = file-in-range s (r .automaton) (reading-holds z)
+
+-- The answer of `read_into`, with t the transitions that it leaves.
+
+module _ (s : List ℕ) (r : Begun) (t : List ℕ) (number : r .refusal ≡ refusalOf (readFile s))
+    (left : wholeOf (r .head) t ≡ automatonRead s) where
+  pub begun-holds : r .refusal ≡ 0 → readFile s ≡ holds (wholeOf (r .head) t)
+  begun-holds z = read-holds s (sym number ∙ z) ∙ ap holds (sym left)
+
+  pub begun-refuses : (r .refusal ≡ 0 → ⊥) → readFile s ≡ refused (r .refusal)
+  begun-refuses z = read-refuses s (λ e. z (number ∙ e)) ∙ ap refused (sym number)
+
+  pub begun-in-range : r .refusal ≡ 0 → InRange (wholeOf (r .head) t)
+  begun-in-range z = file-in-range s (wholeOf (r .head) t) (begun-holds z)

@@ -6,11 +6,12 @@ use mathlib.Core.List.{List}
 use Prim.Native.Nat.{ℕ, _+_, _≤_, _<_}
 use native.Mathlib.Omega.{arith}
 use lib.Dec.{ltb}
-use lib.ListN.{length, getD}
+use lib.ListN.{length, getD, replicate}
 use borrow.Author.Tests.{le-leb, lt-leb, lt-ltb, le-ltb}
 use Rattle.automaton.specs.declared.Automaton.{Automaton}
+use Rattle.automaton.specs.declared.Head.{Head}
 use Rattle.automaton.specs.Sets.{member}
-use Rattle.automaton.specs.Automata.{accepts, transition, bare, withAccepting, withTransition, headerValues}
+use Rattle.automaton.specs.Automata.{accepts, transition, bare, withAccepting, withTransition, wholeOf, headerValues}
 use Rattle.automaton.specs.Members.{transitionIn, withMember, withBitFor}
 use Rattle.automaton.proofs.InRange.{header-values-iff}
 use Rattle.automaton.proofs.Bits.{bare-header}
@@ -18,15 +19,16 @@ use Rattle.format.specs.declared.Record.{Record}
 use Rattle.format.specs.declared.Record.the-variants.{Accepting, Transition}
 use Rattle.format.specs.Marks.{marked, headerMark}
 use Rattle.format.specs.Records.{recordIn}
+use Rattle.file.specs.declared.Begun.{Begun}
 use Rattle.file.specs.declared.Header.{Header}
-use Rattle.file.specs.declared.Start.{Start}
-use Rattle.file.specs.declared.Start.the-variants.{NoHeader, Begins}
+use Rattle.file.specs.declared.Start.the-variants.{NoHeader}
 use Rattle.file.specs.declared.Progress.{Progress}
 use Rattle.file.specs.declared.Progress.the-variants.{Refused, Whole, Goes}
-use Rattle.format.specs.File.{Read, Step, over, next, refused, holds, check, header, takes, recordAt, records, readFile}
-use Rattle.file.specs.Taking.{wholeOf, startStep, progressStep, readPast, automatonAfter, Taken}
+use Rattle.format.specs.File.{Read, Step, over, next, refused, holds, check, header, takes, recordAt, readFile}
+use Rattle.file.specs.Taking.{headWith, startStep, Headed, progressStep, automatonAfter, automatonRead, Taken, refusalOf}
 use Rattle.format.proofs.RecordSteps.{HeaderStep, no-header, starts, header-step, record-advances}
 use Rattle.format.proofs.RecordSteps.{readAfter, read-file, read-over, read-next}
+use Rattle.file.proofs.LeftAutomata.{leftAfter, left-file, left-over, left-next, unheaded-automaton}
 
 -- The step of a record that was read.
 
@@ -65,53 +67,69 @@ module _ (s : List ℕ) where
 
 module _ (h : Header) (s t : List ℕ) (j : ℕ) where
   module _ (q : ℕ) where
-    pub takes-unknown-state : h .states ≤ q → takes (Accepting q j) (wholeOf h s t) ≡ over (refused 4)
+    pub takes-unknown-state : h .states ≤ q → takes (Accepting q j) (wholeOf (headWith h s) t) ≡ over (refused 4)
     unfolding takes
     takes-unknown-state l = rw (le-ltb q (h .states) l)
 
     module _ (l : q < h .states) where
-      pub takes-repeated-state : member s q ≡ true → takes (Accepting q j) (wholeOf h s t) ≡ over (refused 5)
+      pub takes-repeated-state : member s q ≡ true → takes (Accepting q j) (wholeOf (headWith h s) t) ≡ over (refused 5)
       unfolding takes accepts
       takes-repeated-state e = rw (lt-ltb q (h .states) l, e)
 
-      pub takes-state : member s q ≡ false → takes (Accepting q j) (wholeOf h s t) ≡ next j (wholeOf h (withMember s q) t)
+      pub takes-state : member s q ≡ false → takes (Accepting q j) (wholeOf (headWith h s) t) ≡ next j (wholeOf (headWith h (withMember s q)) t)
       unfolding takes accepts withAccepting
       takes-state e = rw (lt-ltb q (h .states) l, e)
 
   module _ (q a r : ℕ) where
     pub takes-unknown : (ltb q (h .states) && ltb a (h .letters) && ltb r (h .states)) ≡ false
-        → takes (Transition q a r j) (wholeOf h s t) ≡ over (refused 4)
+        → takes (Transition q a r j) (wholeOf (headWith h s) t) ≡ over (refused 4)
     unfolding takes
     takes-unknown e = rw e
 
     module _ (e : (ltb q (h .states) && ltb a (h .letters) && ltb r (h .states)) ≡ true) where
-      pub takes-repeated : transitionIn t q a r ≡ true → takes (Transition q a r j) (wholeOf h s t) ≡ over (refused 5)
+      pub takes-repeated : transitionIn t q a r ≡ true → takes (Transition q a r j) (wholeOf (headWith h s) t) ≡ over (refused 5)
       unfolding takes transition
       takes-repeated d = rw (e, d)
 
       pub takes-transition : transitionIn t q a r ≡ false
-          → takes (Transition q a r j) (wholeOf h s t) ≡ next j (wholeOf h s (withBitFor t q a r))
+          → takes (Transition q a r j) (wholeOf (headWith h s) t) ≡ next j (wholeOf (headWith h s) (withBitFor t q a r))
       unfolding takes transition withTransition
       takes-transition d = rw (e, d)
 
--- The reading goes on after a record, or is over. A whole reading w, of which A is what stands before position i, goes by what the record
--- at i comes to: p, with B the automaton after it.
+-- The reading goes on after a record, or is over.
 
-module _ (s : List ℕ) (i : ℕ) (A B : Automaton) (p : Progress) (w : Read) (inv : w ≡ readAfter s (next i A))
-    (e : recordAt s i A ≡ progressStep p B) where
-  reading-goes-on : {q : Progress} → p ≡ q → w ≡ readAfter s (progressStep q B)
-  reading-goes-on d = inv ∙ read-next s i A ∙ ap (readAfter s) (e ∙ ap (λ (x : Progress). progressStep x B) d)
+-- the file s is read up to position i, with A the automaton so far
+pub record ReadTo (s : List ℕ) (i : ℕ) (A : Automaton) : Type 0 where
+  pub answer : readFile s ≡ readAfter s (recordAt s i A)
+  pub automaton : automatonRead s ≡ leftAfter s (recordAt s i A) A
 
-  pub reading-refused : (n : ℕ) → p ≡ Refused n → w ≡ refused n
-  reading-refused n d = reading-goes-on d ∙ read-over s (refused n)
+-- the record at i comes to p, with B the automaton after it
+module _ (s : List ℕ) (i : ℕ) (A B : Automaton) (p : Progress) (to : ReadTo s i A) (t : Taken (recordAt s i A) p A B) where
+  came : {q : Progress} → p ≡ q → recordAt s i A ≡ progressStep q B
+  came d = t .step ∙ ap (λ (x : Progress). progressStep x B) d
 
-  pub reading-ends : p ≡ Whole → w ≡ holds B
-  reading-ends d = reading-goes-on d ∙ read-over s (holds B)
+  reading-over : (x : Read) → recordAt s i A ≡ over x → (readFile s ≡ x) × (automatonRead s ≡ B)
+  reading-over x e = (
+    to .answer ∙ ap (readAfter s) e ∙ read-over s x,
+    to .automaton ∙ ap (λ (y : Step). leftAfter s y A) e ∙ left-over s x A ∙ sym (t .left ∙ ap (λ (y : Step). automatonAfter y A) e),
+  )
 
-  pub reading-advances : (j : ℕ) → p ≡ Goes j → (i + 3 ≤ j) × (j ≤ length s) × (w ≡ readAfter s (next j B))
+  pub reading-refused : (n : ℕ) → p ≡ Refused n → (readFile s ≡ refused n) × (automatonRead s ≡ B)
+  reading-refused n d = reading-over (refused n) (came d)
+
+  pub reading-ends : p ≡ Whole → (readFile s ≡ holds B) × (automatonRead s ≡ B)
+  reading-ends d = reading-over (holds B) (came d)
+
+  pub reading-advances : (j : ℕ) → p ≡ Goes j → (i + 3 ≤ j) × (j ≤ length s) × ReadTo s j B
   reading-advances j d =
-      let a = record-advances s i j A B (e ∙ ap (λ (x : Progress). progressStep x B) d) in
-      (a .0, a .1, reading-goes-on d)
+      let a = record-advances s i j A B (came d) in (
+        a .0,
+        a .1,
+        record {
+          answer = to .answer ∙ ap (readAfter s) (came d) ∙ read-next s j B;
+          automaton = to .automaton ∙ ap (λ (y : Step). leftAfter s y A) (came d) ∙ left-next s j B A;
+        },
+      )
 
 -- What a header that is there says of its file.
 
@@ -126,17 +144,39 @@ step-starts (starts n k i t e v) =
     let h = bare-header n k i in
     (omega (arith, h .0, b .1), omega (arith, h .1, b .3), omega (arith, ap length e))
 
-pub header-holds : (s : List ℕ) (x : Start) (h : Header) → startStep x ≡ header s → x ≡ Begins h
-    → (h .states ≤ 32) × (h .letters ≤ 16) × (5 ≤ length s)
-header-holds s x h d e =
-    let r = subst (Starts s) (sym d ∙ ap startStep e) (step-starts (header-step s)) in
-    let b = bare-header (h .states) (h .letters) (h .initial) in
-    (omega (arith, b .0, r .0), omega (arith, b .1, r .1), r .2)
+module _ (s : List ℕ) (h : Header) (is : Headed s h) where
+  pub header-holds : (h .states ≤ 32) × (h .letters ≤ 16) × (5 ≤ length s)
+  header-holds =
+      let r = subst (Starts s) (sym is) (step-starts (header-step s)) in
+      let b = bare-header (h .states) (h .letters) (h .initial) in
+      (omega (arith, b .0, r .0), omega (arith, b .1, r .1), r .2)
 
-pub reading-starts : (s : List ℕ) (x : Start) (h : Header) → startStep x ≡ header s → x ≡ Begins h
-    → readFile s ≡ readPast s h
-unfolding readFile readPast
-reading-starts s x h d e = ap (records (length s) s) (sym d ∙ ap startStep e)
+  pub reading-starts : (t : List ℕ) → t ≡ replicate 2048 0 → ReadTo s 5 (wholeOf (headWith h (replicate 4 0)) t)
+  unfolding bare
+  reading-starts t clear =
+      let A = bare (h .states) (h .letters) (h .initial) in
+      subst (λ (l : List ℕ). ReadTo s 5 (wholeOf (headWith h (replicate 4 0)) l)) (sym clear)
+      record {
+        answer = read-file s ∙ ap (readAfter s) (sym is) ∙ read-next s 5 A;
+        automaton = left-file s ∙ ap (λ (y : Step). leftAfter s y (bare 0 0 0)) (sym is) ∙ left-next s 5 A (bare 0 0 0);
+      }
 
-pub reading-unstarted : (s : List ℕ) (x : Start) (n : ℕ) → startStep x ≡ header s → x ≡ NoHeader n → readFile s ≡ refused n
-reading-unstarted s x n d e = read-file s ∙ ap (readAfter s) (sym d ∙ ap startStep e) ∙ read-over s (refused n)
+abbrev noHeader : Header
+noHeader = record { states = 0; letters = 0; initial = 0 }
+
+pub reading-unstarted : (s : List ℕ) (n : ℕ) (t : List ℕ) → startStep (NoHeader n) ≡ header s → t ≡ replicate 2048 0
+    → (readFile s ≡ refused n) × (automatonRead s ≡ wholeOf (headWith noHeader (replicate 4 0)) t)
+unfolding bare
+reading-unstarted s n t d clear = (
+  read-file s ∙ ap (readAfter s) (sym d) ∙ read-over s (refused n),
+  unheaded-automaton s (refused n) (sym d) ∙ ap (wholeOf (headWith noHeader (replicate 4 0))) (sym clear),
+)
+
+-- The answer of a reading that is over, with the head h and the transitions t.
+
+pub answered : (s : List ℕ) (x : Read) (h : Head) (t : List ℕ) (r : Begun) → (readFile s ≡ x) × (automatonRead s ≡ wholeOf h t)
+    → (r .refusal ≡ refusalOf x) × (r .head ≡ h) → (r .refusal ≡ refusalOf (readFile s)) × (wholeOf (r .head) t ≡ automatonRead s)
+answered s x h t r e d = (
+  d .0 ∙ sym (ap refusalOf (e .0)),
+  ap (λ (y : Head). wholeOf y t) (d .1) ∙ sym (e .1),
+)

@@ -1,19 +1,25 @@
--- How the code holds a step of the reading: the header apart from the automaton's two sets of bytes, and the answer apart from what it leaves
--- in them. `File` says what the step is.
---   wholeOf h s t      the automaton with the header h, the accepting states s and the transitions t
+-- How the code holds a reading and a step of it: the header apart from the automaton's two sets of bytes, and the answer apart from what it
+-- leaves in them. `File` says what the step is.
+--   headWith h s       the head with the header h and the accepting states s
 --   startStep x        what the first record comes to, as a step of the reading
---   readPast s h       what the file s holds, read on from its header h
+--   Headed s h         the first record of the file s is the header h
 --   progressStep p A   what a record came to, as a step of the reading, with A the automaton after it
 --   automatonAfter x A         the automaton after the step x, with A before it: a refusal and the end leave it as it is
+--   automatonPast n s x A      the automaton after the step x of the file s and the records past it, at most n of them, with A before the step
+--   automatonRead s    the automaton of the file's header and its records before the first fault, or before the end; with no header the bare one
+--                      of no states
 --   Taken x p A B      the step x came to p, and left B of A
+--   refusalOf r        the refusal's number; 0 where there is none
 --   readingOf r        what the reader's struct holds of r: with a refusal its automaton is bare
--- Only contracts between functions name these. Shown by `reading-advances`, `reading-ends` and `reading-refused`: how the reading goes on after
--- a step that came to p. Assumes nothing.
+-- Only contracts of the reader name these. Shown by `reading-advances`, `reading-ends` and `reading-refused`: how the reading goes on after a step
+-- that came to p; by `headed-automaton` and `unheaded-automaton`: what a reading leaves, in the terms of the file's records; and by
+-- `held-automaton`: a file that is read leaves its automaton. Assumes nothing.
 use mathlib.Core.Path.{_≡_}
 use mathlib.Core.List.{List}
-use Prim.Native.Nat.{ℕ}
+use Prim.Native.Nat.{ℕ, zero, suc}
 use lib.ListN.{length}
 use Rattle.automaton.specs.declared.Automaton.{Automaton}
+use Rattle.automaton.specs.declared.Head.{Head}
 use Rattle.automaton.specs.Automata.{bare}
 use Rattle.file.specs.declared.Reading.{Reading}
 use Rattle.file.specs.declared.Header.{Header}
@@ -21,17 +27,17 @@ use Rattle.file.specs.declared.Start.{Start}
 use Rattle.file.specs.declared.Start.the-variants.{NoHeader, Begins}
 use Rattle.file.specs.declared.Progress.{Progress}
 use Rattle.file.specs.declared.Progress.the-variants.{Refused, Whole, Goes}
-use Rattle.format.specs.File.{Read, Step, over, next, refused, holds, records}
+use Rattle.format.specs.File.{Read, Step, over, next, refused, holds, header, recordAt}
 
-abbrev pub wholeOf : Header → List ℕ → List ℕ → Automaton
-wholeOf h s t = record { states = h .states; letters = h .letters; initial = h .initial; accepting = s; transitions = t }
+abbrev pub headWith : Header → List ℕ → Head
+headWith h s = record { states = h .states; letters = h .letters; initial = h .initial; accepting = s }
 
 abbrev pub startStep : Start → Step
 startStep (NoHeader n) = over (refused n)
 startStep (Begins h) = next 5 (bare (h .states) (h .letters) (h .initial))
 
-unfoldable pub readPast : List ℕ → Header → Read
-readPast s h = records (length s) s (next 5 (bare (h .states) (h .letters) (h .initial)))
+abbrev pub Headed : List ℕ → Header → Type 0
+Headed s h = startStep (Begins h) ≡ header s
 
 abbrev pub progressStep : Progress → Automaton → Step
 progressStep (Refused n) A = over (refused n)
@@ -42,9 +48,22 @@ abbrev pub automatonAfter : Step → Automaton → Automaton
 automatonAfter (over r) A = A
 automatonAfter (next i B) A = B
 
+unfoldable pub automatonPast : ℕ → List ℕ → Step → Automaton → Automaton
+automatonPast zero s x A = automatonAfter x A
+automatonPast (suc n) s (over r) A = A
+automatonPast (suc n) s (next i B) A = automatonPast n s (recordAt s i B) B
+
+-- a record has two bytes or more, so there are at most as many as bytes
+unfoldable pub automatonRead : List ℕ → Automaton
+automatonRead s = automatonPast (length s) s (header s) (bare 0 0 0)
+
 pub record Taken (x : Step) (p : Progress) (A B : Automaton) : Type 0 where
   pub step : x ≡ progressStep p B
   pub left : B ≡ automatonAfter x A
+
+abbrev pub refusalOf : Read → ℕ
+refusalOf (refused n) = n
+refusalOf (holds A) = 0
 
 abbrev pub readingOf : Read → Reading
 readingOf (refused n) = record { refusal = n; automaton = bare 0 0 0 }

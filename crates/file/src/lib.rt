@@ -1,10 +1,11 @@
 // The reader of automaton files: the header, and then one record after another up to the end record or the first fault.
 ghost use mathlib.Core.Path.{_≡_};
-ghost use Prim.Native.Nat.{_≤_};
-ghost use lib.ListN.{length};
+ghost use lib.ListN.{replicate};
+ghost use Rattle.automaton.specs.Automata.{wholeOf};
 ghost use Rattle.format.specs.File.{refused, holds, readFile};
-ghost use Rattle.file.specs.Taking.{readingOf, wholeOf, readPast};
+ghost use Rattle.file.specs.Taking.{Headed, headWith, automatonRead, refusalOf, readingOf};
 use automaton::Automaton;
+use automaton::Head;
 
 mod first;
 mod taking;
@@ -13,6 +14,12 @@ mod taking;
 pub struct Reading {
     pub refusal: usize,
     pub automaton: Automaton,
+}
+
+// What reading a file into lent transitions gives: refusal 1 to 5, or 0, and the head to the transitions.
+pub struct Begun {
+    pub refusal: usize,
+    pub head: Head,
 }
 
 // A header's values.
@@ -35,6 +42,58 @@ pub enum Progress {
     Goes(usize),
 }
 
+// The answer of a reading that is over: the refusal, and the head with this header and these accepting states.
+fn ended(refusal: usize, header: Header, accepting: [u8; 4]) -> Begun
+    ensures { λ r. ⌜ (r .refusal ≡ refusal) × (r .head ≡ headWith header accepting) ⌝ }
+{
+    Begun {
+        refusal,
+        head: Head {
+            states: header.states,
+            letters: header.letters,
+            initial: header.initial,
+            accepting,
+        },
+    }
+}
+
+// Reads the records past the header: what `read_into` promises of the whole file.
+fn read_records(file: &[u8], header: Header, transitions: &mut [u8; 2048]) -> Begun
+    requires { ⌜ Headed (now file) header × (now transitions ≡ replicate 2048 0) ⌝ }
+    ensures refusal { λ r. ⌜ r .refusal ≡ refusalOf (readFile (now (file .entry))) ⌝ }
+    ensures automaton { λ r. ⌜ wholeOf (r .head) (now (transitions .exit)) ≡ automatonRead (now (file .entry)) ⌝ }
+{
+    let mut accepting = [0u8; 4];
+    let mut at = 5;
+    loop {
+        match taking::take_record(file, at, header, &mut accepting, transitions) {
+            Progress::Refused(number) => return ended(number, header, accepting),
+            Progress::Whole => return ended(0, header, accepting),
+            Progress::Goes(next) => at = next,
+        }
+    }
+}
+
+// Reads a file into transitions that are all zero: refusal 1 to 5, or 0. The head and the transitions are then the automaton of the header and of
+// the records before the end or the first fault; without a header both are zero.
+pub fn read_into(file: &[u8], transitions: &mut [u8; 2048]) -> Begun
+    requires { ⌜ now transitions ≡ replicate 2048 0 ⌝ }
+    ensures refusal { λ r. ⌜ r .refusal ≡ refusalOf (readFile (now (file .entry))) ⌝ }
+    ensures automaton { λ r. ⌜ wholeOf (r .head) (now (transitions .exit)) ≡ automatonRead (now (file .entry)) ⌝ }
+{
+    match first::read_header(file) {
+        Start::NoHeader(number) => {
+            let nothing = Header {
+                states: 0,
+                letters: 0,
+                initial: 0,
+            };
+            ended(number, nothing, [0; 4])
+        }
+        Start::Begins(header) => read_records(file, header, transitions),
+    }
+}
+
 // The reading that a refusal gives.
 fn refused(number: usize) -> Reading
     ensures { λ r. ⌜ r ≡ readingOf (refused number) ⌝ }
@@ -46,35 +105,19 @@ fn refused(number: usize) -> Reading
 }
 
 // The reading that the whole automaton gives.
-fn whole(header: Header, accepting: [u8; 4], transitions: [u8; 2048]) -> Reading
-    ensures { λ r. ⌜ r ≡ readingOf (holds (wholeOf header accepting transitions)) ⌝ }
+fn whole(head: Head, transitions: [u8; 2048]) -> Reading
+    ensures { λ r. ⌜ r ≡ readingOf (holds (wholeOf head transitions)) ⌝ }
 {
+    let accepting = head.accepting;
     Reading {
         refusal: 0,
         automaton: Automaton {
-            states: header.states,
-            letters: header.letters,
-            initial: header.initial,
+            states: head.states,
+            letters: head.letters,
+            initial: head.initial,
             accepting,
             transitions,
         },
-    }
-}
-
-// The reading of the records past the header.
-fn read_records(file: &[u8], header: Header) -> Reading
-    requires { ⌜ (header .states ≤ 32) × (header .letters ≤ 16) × (5 ≤ length (now file)) ⌝ }
-    ensures { λ r. ⌜ r ≡ readingOf (readPast (now (file .entry)) header) ⌝ }
-{
-    let mut accepting = [0u8; 4];
-    let mut transitions = [0u8; 2048];
-    let mut at = 5;
-    loop {
-        match taking::take_record(file, at, header, &mut accepting, &mut transitions) {
-            Progress::Refused(number) => return refused(number),
-            Progress::Whole => return whole(header, accepting, transitions),
-            Progress::Goes(next) => at = next,
-        }
     }
 }
 
@@ -82,8 +125,11 @@ fn read_records(file: &[u8], header: Header) -> Reading
 pub fn read(file: &[u8]) -> Reading
     ensures { λ r. ⌜ r ≡ readingOf (readFile (now (file .entry))) ⌝ }
 {
-    match first::read_header(file) {
-        Start::NoHeader(number) => refused(number),
-        Start::Begins(header) => read_records(file, header),
+    let mut transitions = [0u8; 2048];
+    let begun = read_into(file, &mut transitions);
+    if begun.refusal == 0 {
+        whole(begun.head, transitions)
+    } else {
+        refused(begun.refusal)
     }
 }

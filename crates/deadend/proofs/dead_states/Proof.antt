@@ -1,8 +1,6 @@
 -- `deadend::dead_states` meets its contract: the flags of the set of dead states are their table. Assumes nothing.
 use mathlib.Core.Path.{_∙_}
-use lib.ListN.{set}
 use borrow.Author.Needs.{needs}
-use Rattle.automaton.specs.Ranges.{table}
 use Rattle.deadend.proofs.WordDeadEnds.{dead-flags}
 use Rattle.deadend.proofs.dead_states.Statement.{statement}
 use Rattle.deadend.proofs.dead_states.Tie as tie

@@ -1,12 +1,13 @@
 -- `take_accepting` meets its contract: its two tests are those of the definition, and else the state is added. Assumes nothing.
-use mathlib.Core.Path.{_≡_, refl, sym, ap, _∙_}
+use mathlib.Core.Path.{refl, sym, ap, _∙_}
 use mathlib.Core.List.{List}
 use Prim.Native.Nat.{ℕ}
 use native.Mathlib.Omega.{arith}
 use denote.Ref.{now}
+use Rattle.automaton.specs.Automata.{wholeOf}
 use Rattle.file.specs.declared.Progress.the-variants.{Refused, Goes}
 use Rattle.format.specs.File.{next}
-use Rattle.file.specs.Taking.{wholeOf}
+use Rattle.file.specs.Taking.{headWith}
 use Rattle.file.proofs.RecordParts.{taken, takes-unknown-state, takes-repeated-state, takes-state}
 use borrow.Author.Needs.{needs}
 use Rattle.file.proofs.taking.take_accepting.Statement.{statement}
@@ -37,7 +38,7 @@ returns-3 c =
     λ t. taken (Goes (s .next))
     (takes-state (s .header) (now (s .accepting)) t (s .next) (s .q) (omega arith)
     (sym (c .before .before .before .accepts-in .ensures) ∙ c .before .before .if2 .left)
-    ∙ ap (λ (l : List ℕ). next (s .next) (wholeOf (s .header) l t)) (sym (c .add-member .ensures)))
+    ∙ ap (λ (l : List ℕ). next (s .next) (wholeOf (headWith (s .header) l) t)) (sym (c .add-member .ensures)))
     refl
 
 pub take-accepting-spec : {M : Type 1} → statement M

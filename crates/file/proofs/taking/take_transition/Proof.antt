@@ -1,6 +1,6 @@
 -- `take_transition` meets its contract: its two tests are those of the definition, and else the transition is added.
 -- Assumes nothing.
-use mathlib.Core.Path.{_≡_, refl, sym, ap, _∙_}
+use mathlib.Core.Path.{refl, sym, ap, _∙_}
 use mathlib.Core.Bool.{_&&_}
 use mathlib.Core.List.{List}
 use Prim.Native.Nat.{ℕ, _<_}
@@ -10,9 +10,10 @@ use lib.Dec.{ltb→lt, ltb}
 use borrow.Author.Tests.{not-true, not-false}
 use Rattle.automaton.proofs.InRange.{and-three}
 use Rattle.automaton.proofs.Tests.{is-true}
+use Rattle.automaton.specs.Automata.{wholeOf}
 use Rattle.file.specs.declared.Progress.the-variants.{Refused, Goes}
 use Rattle.format.specs.File.{next}
-use Rattle.file.specs.Taking.{wholeOf}
+use Rattle.file.specs.Taking.{headWith}
 use Rattle.file.proofs.RecordParts.{taken, takes-unknown, takes-repeated, takes-transition}
 use Rattle.file.proofs.taking.take_transition.Statement.{statement}
 use Rattle.file.proofs.taking.take_transition.Tie as tie
@@ -57,7 +58,7 @@ returns-3 c =
     λ s. taken (Goes (v .next))
     (takes-transition (v .header) s (now (v .transitions)) (v .next) (v .q) (v .a) (v .r) (not-false _ (e .if1 .left))
     (sym (c .before .before .before .transition-in .ensures) ∙ c .before .before .if2 .left)
-    ∙ ap (λ (l : List ℕ). next (v .next) (wholeOf (v .header) s l)) (sym (c .add-transition .ensures)))
+    ∙ ap (λ (l : List ℕ). next (v .next) (wholeOf (headWith (v .header) s) l)) (sym (c .add-transition .ensures)))
     refl
 
 pub take-transition-spec : {M : Type 1} → statement M
