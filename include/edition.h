@@ -14,8 +14,8 @@
 
    Stack. Within 64 KiB, and within 128 bytes more for each letter of the word that contain or entry_offer gives back, which may be
    EDITION_MAX_WORD letters: 576 KiB are enough for every call. A thread with less lends a shorter `word`: a word that does not fit
-   is refused with 11 before any of it is read back. On x86-64 tests/stack/run measures 44,304 bytes at most without a word and 64 for
-   each letter: 306,320 for an offer that is turned down with a word of 4,096 letters. */
+   is refused with 11 before any of it is read back. On x86-64 tests/stack/run measures less than 45,000 bytes without a word and 64
+   for each letter: less than 307,000 for an offer that is turned down with a word of 4,096 letters. */
 #ifndef EDITION_H
 #define EDITION_H
 
@@ -54,7 +54,7 @@ enum edition_refusal_number {
     EDITION_REFUSED_HEADER = 3,       /* a header value is outside its range */
     EDITION_REFUSED_OUTSIDE = 4,      /* a state or letter is not in the header */
     EDITION_REFUSED_REPEATED = 5,     /* an accepting or transition record is repeated */
-    EDITION_REFUSED_DEAD = 6,         /* a reachable state reaches no accepting state that lies on a loop */
+    EDITION_REFUSED_DEAD = 6,         /* a reachable state reaches no accepting state that lies on a cycle */
     EDITION_REFUSED_LETTERS = 7,      /* the letter counts differ */
     EDITION_REFUSED_BOUND = 8,        /* the bound is above EDITION_MAX_BOUND */
     EDITION_REFUSED_MALFORMED = 9,    /* these bytes are no entry, or one that no list of calls makes */

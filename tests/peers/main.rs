@@ -174,8 +174,8 @@ fn verdicts(first: &Entry, second: &Entry) -> (usize, usize, usize) {
     let letters = first.held().map_or(0, |held| held.automaton.letters());
     let most = [0, 4, 4, 3, 3, 2, 2, 2, 2][usize::from(letters)];
     let (mut words, mut accepted, mut differences) = (0, 0, 0);
-    for (stem, turn) in (0..=most).flat_map(|stem| (1..=most).map(move |turn| (stem, turn))) {
-        for word in all_words(letters, stem + turn) {
+    for (stem, cycle) in (0..=most).flat_map(|stem| (1..=most).map(move |cycle| (stem, cycle))) {
+        for word in all_words(letters, stem + cycle) {
             let verdict = |entry: &Entry| {
                 entry
                     .verdict(&word[..stem], &word[stem..])

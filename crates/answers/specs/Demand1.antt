@@ -1,7 +1,8 @@
 -- Demand 1 of contain (01, the table of refusals, "The walk" and "Contain"): what it answers, the refusals that can occur, and what word and
--- every byte of work hold for each answer. The number of the answer is the crate `kernel`'s matter.
+-- every byte of work hold for each answer. The numbers of answers are in the crate `boundary`.
 --   ContainRefusal n file   n and its file are refusals of contain before the walk
---   Listed S room x         x can occur with S slots and room for so many letters; a word is no longer than the place of its final vertex
+--   Listed S room x         no other answer x occurs with S slots and room for so many letters; a word is no longer than the place of its final
+--                           vertex
 --   written before ns       the slots of the vertices ns, then the bytes of `before`
 --   FrontSlots              refusal 10's slots: the first S vertices of the discovery list, which is longer
 --   Leaves x work' word'    the buffers after the answer x

@@ -1,5 +1,6 @@
 // Condition 9 of an entry, condition 15 of a lasso word, and whether an offer is smaller (docs/reference.md, "Verdict" and "Entry, open, offer").
 use automaton::Automaton;
+use automaton::MAX_STATES;
 use history::Entry;
 ghost use mathlib.Core.Path.{_≡_};
 ghost use mathlib.Core.Bool.{_&&_};
@@ -18,7 +19,7 @@ pub const MAX_LENGTH: usize = 4096;
 fn in_bounds(states: usize, first: usize, edition: usize) -> bool
     ensures { λ r. ⌜ r ≡ (leb 1 first && leb first maxStates && leb states first && leb edition maxEdition) ⌝ }
 {
-    (1 <= first) & (first <= 32) & (states <= first) & (edition <= MAX_EDITION)
+    (1 <= first) & (first <= MAX_STATES) & (states <= first) & (edition <= MAX_EDITION)
 }
 
 // Whether the entry is malformed; of an empty one no other field is examined.

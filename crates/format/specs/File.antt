@@ -6,7 +6,7 @@
 --   recordAt s i A  the same of the record at position i, past the header
 --   readFile s      the whole file
 -- A header's faults are, in this order: bytes of the mark missing (1), another mark (2), fields missing (1), values outside their ranges (3). Those
--- of another record are first what `recordIn` of the crate records finds in its bytes, 1 or 2, then a state or a letter that the header
+-- of another record are first what `recordIn` of `Records` finds in its bytes, 1 or 2, then a state or a letter that the header
 -- lacks (4), then a repeat (5).
 -- Shown by `file-reads-as`, in the terms of the table of refusals. Assumes nothing.
 use mathlib.Core.Bool.{Bool, true, false, _&&_, not}

@@ -120,10 +120,10 @@ module _ (G : Graph) (sound : (u v : G .Vertices) → G .same u v ≡ true → u
     discover-all-have p e es w (List·Memᴰ·tail {x = d} {xs = ds} m) = discover-all-have p e ds (discover G free p w d) m
 
     -- a listed place is expanded, by what its successors came to
-    turned : (p : ℕ) (ns : List (Node (G .Vertices))) → p < length ns → Open G p ns → (w : Walk (G .Vertices))
+    expanded : (p : ℕ) (ns : List (Node (G .Vertices))) → p < length ns → Open G p ns → (w : Walk (G .Vertices))
         → Extends G ns (nodesOf w) → During G p w
         → ((e : ℕ × G .Vertices) → List·Memᴰ e (G .successors (at G ns p .vertex)) → HasIf G (e .1) w) → Before G (suc p) w
-    turned p ns hp O (going ms) a F has =
+    expanded p ns hp O (going ms) a F has =
         record {
           plain = plain-raise G p (suc p) ms (omega arith) F;
           closed = closed;
@@ -144,14 +144,14 @@ module _ (G : Graph) (sound : (u v : G .Vertices) → G .same u v ≡ true → u
                   is = g .2;
                   early = λ z. omega (arith, F .linked .top (g .0) z (g .1));
                 }
-    turned p ns hp O (ended ms n) a F has =
+    expanded p ns hp O (ended ms n) a F has =
         record {
           plain = rw (F .2) (F .0);
           closed = rw (F .2) (closed-extends p ns ms (omega arith) a (O .closed));
           linked = linked-raise G p (n .parent) (ms ++ n ∷ []) (omega (arith, F .2)) (F .1);
           is-final = F .3;
         }
-    turned p ns hp O (full ms) a F has = plain-raise G p (suc p) ms (omega arith) F
+    expanded p ns hp O (full ms) a F has = plain-raise G p (suc p) ms (omega arith) F
 
     pub expand-before : (p : ℕ) (w : Walk (G .Vertices)) → Before G p w → Before G (suc p) (expand G free p w)
     expand-before p (going ns) O = ⊎-elim in-list past (lt-or-le p (length ns))
@@ -160,7 +160,7 @@ module _ (G : Graph) (sound : (u v : G .Vertices) → G .same u v ≡ true → u
         in-list h =
             let es = G .successors (at G ns p .vertex) in
             rw (successors-in G ns p h)
-            (turned p ns h O (discoverAll G free p (going ns) es) (discover-all-extends G free p es (going ns))
+            (expanded p ns h O (discoverAll G free p (going ns) es) (discover-all-extends G free p es (going ns))
             (discover-all-during G free p (at G ns p .vertex) es (going ns) h refl (λ e m. m) (O .plain))
             (λ e m. discover-all-have p e es (going ns) m))
 

@@ -1,4 +1,4 @@
--- What the desk approved by direct simulation stays approved: of two automata that simulate each other directly, the one offered to an
+-- What direct simulation approved stays approved: of two automata that simulate each other directly, the one offered to an
 -- entry that holds the other is taken, at every bound, or a row of the refusals applies (10 is one of them); 11 never does. Assumes
 -- nothing.
 use mathlib.Core.Path.{_≡_, refl, subst}

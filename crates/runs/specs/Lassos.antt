@@ -4,7 +4,7 @@
 --   repeated n v     n copies of v
 --   Meets A π        some state of π is accepting
 --   Accepted A u v   the lasso word of stem u and loop v is accepted by A
--- Shown by `verdict-decides-acceptance` of the crate verdict. Assumes nothing.
+-- Shown by `verdict-decides-acceptance` of the crate lassos. Assumes nothing.
 use mathlib.Core.List.{List, [], _∷_, _++_, List·Memᴰ}
 use Prim.Native.Nat.{ℕ, zero, suc, _≤_}
 use lib.Dec.{T}

@@ -1,4 +1,4 @@
--- Direct simulation, the desk's rule before the lag rule: a relation R on states that holds of the two initial states; where it holds of p
+-- Direct simulation, the rule by which editions were approved before there was the lag rule: a relation R on states that holds of the two initial states; where it holds of p
 -- and q, p is accepting only if q is, and every step of p on a letter is met by a step of q on it to a related state.
 -- Shown by `direct-simulation-contained`: it gives containment at every bound, 0 included. Assumes nothing.
 use Prim.Native.Nat.{ℕ}

@@ -11,7 +11,7 @@ use native.Mathlib.Omega.{arith}
 use borrow.Author.Count.{below-more}
 use borrow.Author.Tests.{ltb-true, ltb-false, lt-ltb}
 use lib.Dec.{T, ltb}
-use lib.ListN.{length, getD, take, set, length-append, length-set}
+use lib.ListN.{length, getD, take, set, length-append, length-set, replicate}
 use lib.Seq.{getD-take, take-set-le, take-suc-set}
 use Rattle.automaton.specs.Automata.{maxStates}
 use Rattle.automaton.specs.Ranges.{those, table, largest}
@@ -19,7 +19,7 @@ use Rattle.automaton.proofs.Ranges.{those-has, table-at}
 use Rattle.automaton.proofs.Tests.{is-true}
 use Rattle.step.specs.declared.present.Present.{Present}
 use Rattle.step.specs.Masks.{rowPlace}
-use Rattle.step.specs.Steps.{presentStates, PresentOf}
+use Rattle.step.specs.Steps.{presentStates, placesAfter, PresentOf}
 use Rattle.step.proofs.Largest.{largest-more, largest-le, largest-bound}
 
 -- Lists of the numbers that pass: one number more, how many there are, and where each stands.
@@ -158,6 +158,16 @@ module _ (f : List ℕ) (count : ℕ) (places : List ℕ) (p : ℕ) (L : Listing
                 ∙ L .places-are
                 ∙ sym more,
           )
+
+pub places-none : (f : List ℕ) → replicate maxStates 0 ≡ placesAfter f 0
+unfolding placesAfter
+places-none f = refl
+
+pub places-next : (f : List ℕ) (count : ℕ) (places : List ℕ) (p : ℕ) → places ≡ placesAfter f p → count ≡ length (presentStates f p)
+    → set places count p ≡ placesAfter f (p + 1)
+unfolding placesAfter
+places-next f count places p e c =
+    ap₂ (λ (l : List ℕ) (k : ℕ). set l k p) e c ∙ ap (placesAfter f) (sym (add-one p))
 
 -- The largest counters of the predecessors, one listed state after the other.
 

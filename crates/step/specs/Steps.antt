@@ -1,6 +1,7 @@
 -- One step of the counters as the code makes it (01, "The walk"): from the masks of the right automaton's transitions the largest counter
 -- of each right state's predecessors, and from that one its counter afterwards, where the left target accepts and where it does not.
 --   presentStates f n        the states below n that have a counter above 0 in f, lowest first
+--   placesAfter f n          the 32 places once the states below n have been gone through, with the room to work in past the list
 --   PresentOf                a list of them, in the code's array
 --   largestMasked m n a f r  the largest counter of the predecessors of r on letter a among the states below n, by their masks in m
 --   allLargest m n a f       the same of all right states
@@ -18,9 +19,9 @@
 use mathlib.Core.Path.{_≡_}
 use mathlib.Core.Bool.{Bool, true, false, cond}
 use mathlib.Core.List.{List}
-use Prim.Native.Nat.{ℕ, _+_, _-_, _<_, min}
+use Prim.Native.Nat.{ℕ, suc, zero, _+_, _-_, _<_, min}
 use lib.Dec.{ltb}
-use lib.ListN.{length, getD, take, replicate}
+use lib.ListN.{length, getD, take, replicate, set}
 use Rattle.automaton.specs.declared.Automaton.{Automaton}
 use Rattle.automaton.specs.Automata.{maxStates, accepts, InRange}
 use Rattle.automaton.specs.Members.{transitionIn}
@@ -35,6 +36,11 @@ use Rattle.step.specs.Masks.{rowPlace, Masks}
 
 abbrev pub presentStates : List ℕ → ℕ → List ℕ
 presentStates f n = those (λ p. ltb 0 (getD f p 0)) n 0
+
+-- each state is written to the next place, and stays there if it is present
+unfoldable pub placesAfter : List ℕ → ℕ → List ℕ
+placesAfter f zero = replicate maxStates 0
+placesAfter f (suc p) = set (placesAfter f p) (length (presentStates f p)) p
 
 -- the places past the count are room to work in; that the counters are bytes is told besides
 pub record PresentOf (present : Present) (f : List ℕ) (n : ℕ) : Type 0 where

@@ -22,7 +22,7 @@ pub enum Call {
     Verdict {
         entry: Vec<u8>,
         stem: Vec<u8>,
-        turn: Vec<u8>,
+        cycle: Vec<u8>,
     },
 }
 
@@ -68,7 +68,7 @@ impl Call {
                     numbers.push((checker.entry.offer)(entry, file, *bound, work, word));
                 }
             }
-            Call::Verdict { entry, stem, turn } => numbers.push((checker.entry.verdict)(entry, stem, turn)),
+            Call::Verdict { entry, stem, cycle } => numbers.push((checker.entry.verdict)(entry, stem, cycle)),
         }
     }
 }

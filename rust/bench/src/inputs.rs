@@ -135,8 +135,8 @@ fn verdict(plain: &Plain, random: &mut Random) -> Vec<Call> {
     let mut entry = vec![0; second::ENTRY_BYTES];
     assert_eq!(second::entry_open(&mut entry, &plain.file()), 0);
     let stem = word(random, plain.letters);
-    let turn = word(random, plain.letters);
-    vec![Call::Verdict { entry, stem, turn }]
+    let cycle = word(random, plain.letters);
+    vec![Call::Verdict { entry, stem, cycle }]
 }
 
 pub fn dense_verdict() -> Vec<Call> {

@@ -30,8 +30,8 @@ fn main() -> ExitCode {
     let result = match arguments.as_slice() {
         [] => compare(RUNS).map(|report| report.table()),
         ["--quick"] => compare(QUICK_RUNS).map(|report| report.table()),
-        ["--json"] => compare(RUNS).map(|report| report.json()),
-        ["--json", "--quick"] | ["--quick", "--json"] => compare(QUICK_RUNS).map(|report| report.json()),
+        ["--json"] => compare(RUNS).map(|report| report.json().to_string()),
+        ["--json", "--quick"] | ["--quick", "--json"] => compare(QUICK_RUNS).map(|report| report.json().to_string()),
         ["--rows"] => Ok(rows::all().iter().map(|row| format!("{}\n", row.name)).collect()),
         ["--calls", row, checker, count] => make_calls(row, checker, count),
         _ => Err(USAGE.to_string()),
@@ -93,8 +93,5 @@ fn machine() -> String {
     let models = info.lines().filter_map(|line| line.strip_prefix("model name"));
     let model = models.map(|rest| rest.trim_start_matches([':', ' ', '\t'])).next();
     let cores = std::thread::available_parallelism().map_or(1, usize::from);
-    format!(
-        "{}, {cores} cores",
-        model.unwrap_or("unknown processor").replace(['"', '\\'], "")
-    )
+    format!("{}, {cores} cores", model.unwrap_or("unknown processor"))
 }

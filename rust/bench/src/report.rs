@@ -1,5 +1,7 @@
 //! What was measured, as a table and as JSON.
 
+use json::Value;
+
 use crate::measure::Medians;
 use crate::rows::{slots_name, Row, SLOTS};
 
@@ -52,13 +54,16 @@ impl Timed {
         format!("{name:<16} {what:<50} {kernel:>10.2} {second:>10.2} {ratio:>6.2}")
     }
 
-    fn json(&self) -> String {
+    fn json(&self) -> Value {
         let Timed { row, medians } = self;
-        let Row { name, what, calls, .. } = row;
-        let Medians { kernel, second } = medians;
-        let (calls, ratio) = (calls.len(), medians.ratio());
-        let label = format!(r#""row":"{name}","what":"{what}","calls":{calls}"#);
-        format!(r#"{{{label},"kernel_ns":{kernel:.1},"second_ns":{second:.1},"ratio":{ratio:.4}}}"#)
+        Value::Object(vec![
+            ("row", Value::Text(row.name.clone())),
+            ("what", Value::Text(row.what.clone())),
+            ("calls", Value::Number(row.calls.len() as u64)),
+            ("kernel_ns", Value::Decimal(medians.kernel, 1)),
+            ("second_ns", Value::Decimal(medians.second, 1)),
+            ("ratio", Value::Decimal(medians.ratio(), 4)),
+        ])
     }
 }
 
@@ -68,9 +73,12 @@ impl Vertex {
         format!("kernel, nanoseconds per listed vertex at {slots:>4} slots: {whole:>6.1}, without reading and checks {walk:>6.1}")
     }
 
-    fn json(&self) -> String {
-        let Vertex { slots, whole, walk } = self;
-        format!(r#"{{"slots":{slots},"kernel_ns":{whole:.2},"kernel_walk_ns":{walk:.2}}}"#)
+    fn json(&self) -> Value {
+        Value::Object(vec![
+            ("slots", Value::Number(self.slots as u64)),
+            ("kernel_ns", Value::Decimal(self.whole, 2)),
+            ("kernel_walk_ns", Value::Decimal(self.walk, 2)),
+        ])
     }
 }
 
@@ -96,18 +104,20 @@ impl Goal {
         format!("goal: {what:<36} {measured:>6.2}, at most {limit:.1}: {met}")
     }
 
-    fn json(&self) -> String {
-        let met = self.met();
-        let Goal {
-            name, measured, limit, ..
-        } = self;
-        format!(r#""{name}":{{"measured":{measured:.4},"limit":{limit},"met":{met}}}"#)
+    /// The goal's name and what is said of it.
+    fn json(&self) -> (&'static str, Value) {
+        let said = Value::Object(vec![
+            ("measured", Value::Decimal(self.measured, 4)),
+            ("limit", Value::Decimal(self.limit, 1)),
+            ("met", Value::Truth(self.met())),
+        ]);
+        (self.name, said)
     }
 }
 
-/// What `text` gives for each item, with the separator between them.
-fn joined<T>(items: &[T], text: impl Fn(&T) -> String, separator: &str) -> String {
-    items.iter().map(text).collect::<Vec<_>>().join(separator)
+/// A line for each item.
+fn lines<T>(items: &[T], line: impl Fn(&T) -> String) -> String {
+    items.iter().map(line).collect::<Vec<_>>().join("\n")
 }
 
 impl Report {
@@ -158,18 +168,23 @@ impl Report {
         let head =
             format!("machine: {machine}\nmedians of {runs} runs of each checker, in turn; microseconds of processor time for a call");
         let columns = format!("{:<67} {:>10} {:>10} {:>6}", "row", "kernel", "second", "ratio");
-        let rows = joined(&self.rows, Timed::line, "\n");
-        let vertices = joined(&self.vertices(), Vertex::line, "\n");
-        let goals = joined(&self.goals(), Goal::line, "\n");
+        let rows = lines(&self.rows, Timed::line);
+        let vertices = lines(&self.vertices(), Vertex::line);
+        let goals = lines(&self.goals(), Goal::line);
         format!("{head}\nbuffers: {BUFFERS}\n\n{columns}\n{rows}\n\n{vertices}\n\n{goals}")
     }
 
-    pub fn json(&self) -> String {
-        let Report { machine, runs, .. } = self;
-        let head = format!(r#""machine":"{machine}","runs":{runs},"buffers":"{BUFFERS}""#);
-        let rows = joined(&self.rows, Timed::json, ",");
-        let vertices = joined(&self.vertices(), Vertex::json, ",");
-        let goals = joined(&self.goals(), Goal::json, ",");
-        format!(r#"{{{head},"rows":[{rows}],"vertices":[{vertices}],"goals":{{{goals}}}}}"#)
+    pub fn json(&self) -> Value {
+        Value::Object(vec![
+            ("machine", Value::Text(self.machine.clone())),
+            ("runs", Value::Number(self.runs as u64)),
+            ("buffers", Value::Text(BUFFERS.into())),
+            ("rows", Value::List(self.rows.iter().map(Timed::json).collect())),
+            (
+                "vertices",
+                Value::List(self.vertices().iter().map(Vertex::json).collect()),
+            ),
+            ("goals", Value::Object(self.goals().iter().map(Goal::json).collect())),
+        ])
     }
 }

@@ -3,8 +3,7 @@
 use std::path::{Path, PathBuf};
 
 use edition::{Argument, Refusal, Walk};
-
-use crate::json::Value;
+use json::Value;
 
 /// Contained, taken, opened, yes, shown.
 pub const YES: u8 = 0;
@@ -17,10 +16,10 @@ pub const FAILED: u8 = 3;
 /// The STORE is replaced, and something failed after that: the folder could not be synced, or the answer could not be written.
 pub const REPLACED: u8 = 4;
 
-/// An answer: the exit status, one word for it, a text for people, and fields for programs.
+/// An answer: the exit status, its kind in plain English, a text for people, and fields for programs.
 pub struct Answer {
     pub status: u8,
-    pub word: &'static str,
+    pub kind: &'static str,
     pub text: String,
     /// What is said besides, on standard error, where the text is fixed.
     pub note: String,
@@ -30,10 +29,10 @@ pub struct Answer {
 }
 
 impl Answer {
-    pub fn new(status: u8, word: &'static str, text: String) -> Answer {
+    pub fn new(status: u8, kind: &'static str, text: String) -> Answer {
         Answer {
             status,
-            word,
+            kind,
             text,
             note: String::new(),
             fields: Vec::new(),
@@ -63,7 +62,7 @@ impl Answer {
         let command = command.map_or(Value::Null, |name| Value::Text(name.into()));
         let mut fields = vec![
             ("command", command),
-            ("answer", Value::Text(self.word.into())),
+            ("answer", Value::Text(self.kind.into())),
             ("status", Value::Number(self.status.into())),
         ];
         fields.extend(self.fields);
@@ -91,13 +90,13 @@ impl From<Refusal> for Failure {
 
 impl Failure {
     pub fn answer(self) -> Answer {
-        let (status, word, message) = match self {
+        let (status, kind, message) = match self {
             Failure::Usage(message) => (FAILED, "usage", message),
             Failure::File(message) => (FAILED, "failed", message),
             Failure::Replaced(message) => (REPLACED, "replaced", message),
             Failure::Refused(refusal) => return refused(&refusal),
         };
-        Answer::new(status, word, message.clone()).with("message", Value::Text(message))
+        Answer::new(status, kind, message.clone()).with("message", Value::Text(message))
     }
 }
 

@@ -3,10 +3,10 @@
 use edition::lag::Graph;
 use edition::slots::{self, Slot};
 use edition::{Automaton, Buffers, Entry, Held, Offer, Outcome, Refusal, MAX_SLOTS};
+use json::Value;
 
 use crate::answer::{spelled, Answer, Failure, NO, YES};
 use crate::arguments::{Arguments, Form};
-use crate::json::Value;
 use crate::store::Store;
 use crate::{dot, listing, never};
 
@@ -96,11 +96,11 @@ fn taken(held: &Held, forward: u16, back: u16) -> Answer {
 fn turned_down(walk: &'static str, (forward, back): (u16, Option<u16>), word: &[u8]) -> Answer {
     let (shown, counts) = match back {
         None => (
-            "the held automaton has a run on it that the offer does not match",
+            "the held automaton has a run on it that the offer does not follow",
             format!("walk {forward}"),
         ),
         Some(back) => (
-            "the offer has a run on it that the held automaton does not match",
+            "the offer has a run on it that the held automaton does not follow",
             format!("walks {forward} {back}"),
         ),
     };
@@ -116,9 +116,9 @@ fn turned_down(walk: &'static str, (forward, back): (u16, Option<u16>), word: &[
 
 /// `verdict STORE STEM LOOP`.
 pub fn verdict(arguments: &Arguments) -> Result<Answer, Failure> {
-    let (stem, turn) = (arguments.letters("STEM", 2)?, arguments.letters("LOOP", 3)?);
+    let (stem, cycle) = (arguments.letters("STEM", 2)?, arguments.letters("LOOP", 3)?);
     let entry = Store::at(arguments.path(1))?.entry()?;
-    Ok(match entry.verdict(&stem, &turn)? {
+    Ok(match entry.verdict(&stem, &cycle)? {
         true => Answer::new(YES, "yes", "yes: the held automaton accepts the word".into()),
         false => Answer::new(NO, "no", "no: the held automaton does not accept the word".into()),
     })

@@ -8,10 +8,10 @@ use std::process::{self, Command, Stdio};
 
 use edition::slots::SLOT_BYTES;
 use edition::Refusal;
+use json::Value;
 
 use crate::answer::{advised, refused, Answer, Failure, FAILED, NO, YES};
 use crate::files::Source;
-use crate::json::Value;
 
 /// The program reads this much of a file at most, one byte more than it accepts.
 const READ: u64 = 65537;
@@ -98,12 +98,12 @@ fn read_line(line: &str) -> Option<Answer> {
 }
 
 /// The answer of a line with walks: outcome, edition, states, first states, percent, the two counts and the word.
-fn walked(status: u8, word: &'static str, line: &str, words: &[&str]) -> Option<Answer> {
+fn walked(status: u8, kind: &'static str, line: &str, words: &[&str]) -> Option<Answer> {
     let [_, edition, "states", states, "of", first, "saved", saved, "walks", forward, back, ref rest @ ..] = *words
     else {
         return None;
     };
-    let mut answer = Answer::new(status, word, line.into()).with("line", Value::Text(line.into()));
+    let mut answer = Answer::new(status, kind, line.into()).with("line", Value::Text(line.into()));
     let numbers = [
         ("edition", edition),
         ("states", states),

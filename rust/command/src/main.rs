@@ -8,7 +8,6 @@ mod commands;
 mod dot;
 mod files;
 mod help;
-mod json;
 mod listing;
 mod never;
 mod store;
@@ -21,6 +20,7 @@ use std::process::ExitCode;
 use answer::{Answer, Failure, FAILED, REFUSED, REPLACED, YES};
 use arguments::{asks_json, usage, Arguments, Form};
 use help::{Command, COMMANDS, NO_FILES, STORE};
+use json::Value;
 
 fn main() -> ExitCode {
     let line: Vec<OsString> = env::args_os().skip(1).collect();
@@ -83,12 +83,12 @@ fn answered(arguments: &Arguments) -> Result<Answer, Failure> {
 }
 
 fn helped(text: String) -> Answer {
-    Answer::new(YES, "help", text.clone()).with("text", json::Value::Text(text))
+    Answer::new(YES, "help", text.clone()).with("text", Value::Text(text))
 }
 
 fn version() -> Answer {
     let text = format!("edition {}", edition::VERSION);
-    Answer::new(YES, "version", text).with("version", json::Value::Text(edition::VERSION.into()))
+    Answer::new(YES, "version", text).with("version", Value::Text(edition::VERSION.into()))
 }
 
 /// What is wrong with the number of operands, with standard input as one or with the options, if anything.
@@ -128,7 +128,7 @@ fn print(answer: Answer, command: Option<&str>, form: Form) -> io::Result<()> {
     if form == Form::Json {
         return writeln!(io::stdout(), "{}", answer.json(command));
     }
-    let failed = matches!(answer.word, "usage" | "failed" | "replaced");
+    let failed = matches!(answer.kind, "usage" | "failed" | "replaced");
     let aside = failed || (form != Form::Text && answer.status == REFUSED);
     if !answer.note.is_empty() {
         writeln!(io::stderr(), "{}", answer.note)?;

@@ -239,9 +239,9 @@ impl<'a> History<'a> {
         expected
     }
 
-    pub fn verdict(&mut self, stem: &[u8], turn: &[u8]) -> u64 {
-        let got = (self.calls.verdict)(self.compared.contents(), stem, turn);
-        let expected = second::entry_verdict(self.second.contents(), stem, turn);
+    pub fn verdict(&mut self, stem: &[u8], cycle: &[u8]) -> u64 {
+        let got = (self.calls.verdict)(self.compared.contents(), stem, cycle);
+        let expected = second::entry_verdict(self.second.contents(), stem, cycle);
         self.tallies.verdict.add(expected, 0);
         let mut faults = Vec::new();
         if got != expected {
@@ -250,7 +250,7 @@ impl<'a> History<'a> {
         note_differences(&mut faults, &[("entry", &self.compared, &self.second)]);
         if !faults.is_empty() {
             let what = format!("{}: {}", self.name, faults.join("; "));
-            let inputs = [("entry", self.second.contents()), ("stem", stem), ("loop", turn)];
+            let inputs = [("entry", self.second.contents()), ("stem", stem), ("loop", cycle)];
             self.tallies.verdict.disagree(&what, &inputs);
             self.compared = self.second.clone();
         }
@@ -258,7 +258,7 @@ impl<'a> History<'a> {
     }
 
     fn verdicts(&mut self, probes: &[[Vec<u8>; 2]]) -> Vec<u64> {
-        probes.iter().map(|[stem, turn]| self.verdict(stem, turn)).collect()
+        probes.iter().map(|[stem, cycle]| self.verdict(stem, cycle)).collect()
     }
 
     /// Buffers near the limits of what the offer needs.
@@ -527,15 +527,15 @@ pub fn long_words(calls: &Calls, tallies: &mut Tallies, seed: u64, cases: usize)
         let name = format!("long word {case} of seed {seed:#x}");
         let mut history = History::new(random, calls, tallies, name, &entry);
         let stem_length = random.pick(&[0, 1, 17, MAX_LASSO - 1, MAX_LASSO, MAX_LASSO, MAX_LASSO + 1]);
-        let turn_length = random.pick(&[1, 2, 31, MAX_LASSO - 1, MAX_LASSO, MAX_LASSO, MAX_LASSO + 1]);
+        let cycle_length = random.pick(&[1, 2, 31, MAX_LASSO - 1, MAX_LASSO, MAX_LASSO, MAX_LASSO + 1]);
         let mut stem = draw_word(random, held.letters, stem_length);
-        let mut turn = draw_word(random, held.letters, turn_length);
+        let mut cycle = draw_word(random, held.letters, cycle_length);
         if random.chance(1, 8) {
-            let word = if random.chance(1, 2) { &mut stem } else { &mut turn };
+            let word = if random.chance(1, 2) { &mut stem } else { &mut cycle };
             if let Some(letter) = word.last_mut() {
                 *letter = random.pick(&[held.letters as u8, 16, 255]);
             }
         }
-        history.verdict(&stem, &turn);
+        history.verdict(&stem, &cycle);
     }
 }

@@ -6,9 +6,9 @@ use std::io::{ErrorKind, Write};
 use std::path::{Path, PathBuf};
 use std::process::{Command, Output, Stdio};
 
-use second::entry::{Direction, OfferRefusal};
+use second::entry::Direction;
 use second::listing::{MAX_FILE, WORD_BYTES, WORK_BYTES};
-use second::walk::SLOT_BYTES;
+use second::walk::{MAX_SLOTS, SLOT_BYTES};
 use second::Entry;
 
 use crate::automata::{
@@ -183,7 +183,7 @@ fn refused_by(first: &[u8], offer: &[u8], bound: u8) -> &'static str {
         return "open";
     }
     match entry.offer(offer, bound.into(), &mut [0; WORK_BYTES], &mut [0; WORD_BYTES]) {
-        Err(OfferRefusal { walk, .. }) => match walk {
+        Err(refused) => match refused.place {
             None => "offer",
             Some(Direction::Forward) => "the forward walk",
             Some(Direction::Back) => "the back walk",
@@ -206,7 +206,7 @@ pub fn named_files(lines: &mut Lines, seed: u64, examples: &Path) {
     }
     let mut paths: Vec<PathBuf> = fs::read_dir(examples)
         .expect("the examples are there")
-        .map(|entry| entry.expect("the examples can be listed").path())
+        .map(|item| item.expect("the examples can be listed").path())
         .filter(|path| path.extension().is_some_and(|extension| extension == "ba"))
         .collect();
     paths.sort();
@@ -331,6 +331,17 @@ pub fn lengths(lines: &mut Lines) {
     }
 }
 
+/// Rings whose walk at bound 0 has its final vertex at this place, up to 4,096: the runs come into the rings so many states later
+/// that they have this many letters left to the end of the round.
+fn rings_with_final(place: usize) -> [Plain; 2] {
+    let (ring, rings, ahead) = (13, [5, 7, 9], MAX_SLOTS - place);
+    let (mut left, mut right) = (left_rings(Start::Again, ring), right_rings(Start::Again, &rings, true));
+    let firsts = [0, 5, 12];
+    left.rows[ring * 2 + 1] = 1 << (ahead % ring);
+    right.rows[21 * 2 + 1] = (0..3).fold(0, |set, place| set | 1 << (firsts[place] + ahead % rings[place]));
+    [left, right]
+}
+
 /// Walks near the number of slots that the program has, in both directions, and long words of letters with one and two digits.
 pub fn long_walks(lines: &mut Lines) {
     for length in 7..=12 {
@@ -350,5 +361,11 @@ pub fn long_walks(lines: &mut Lines) {
             lines.compare_offer(&name, 0, &held, &offer);
             lines.compare_offer(&name, 0, &held.behind_letters(14), &offer.behind_letters(14));
         }
+    }
+    for (place, begins) in [(slots - 1, "forward"), (slots, "forward"), (slots + 1, "refused")] {
+        let [held, offer] = rings_with_final(place);
+        let (name, held) = (format!("a final vertex at {place}"), held.padded(32));
+        assert!(second::listing(&[0], &held.file(), &offer.file()).starts_with(begins.as_bytes()));
+        lines.compare_offer(&name, 0, &held, &offer);
     }
 }

@@ -36,8 +36,8 @@ mod exported {
             entry_length: usize,
             stem: *const u8,
             stem_length: usize,
-            turn: *const u8,
-            turn_length: usize,
+            cycle: *const u8,
+            cycle_length: usize,
         ) -> u64;
     }
 }
@@ -85,8 +85,8 @@ pub fn entry_offer(entry: &mut [u8], file: &[u8], bound: u64, work: &mut [u8], w
     }
 }
 
-/// 0 no, 1 yes, 100 plus a refusal's number.
-pub fn entry_verdict(entry: &[u8], stem: &[u8], turn: &[u8]) -> u64 {
+/// On the lasso word of the stem and the loop `cycle`: 0 no, 1 yes, 100 plus a refusal's number.
+pub fn entry_verdict(entry: &[u8], stem: &[u8], cycle: &[u8]) -> u64 {
     // SAFETY: each pointer comes with its slice's length; nothing is written.
     unsafe {
         exported::entry_verdict(
@@ -94,8 +94,8 @@ pub fn entry_verdict(entry: &[u8], stem: &[u8], turn: &[u8]) -> u64 {
             entry.len(),
             stem.as_ptr(),
             stem.len(),
-            turn.as_ptr(),
-            turn.len(),
+            cycle.as_ptr(),
+            cycle.len(),
         )
     }
 }

@@ -116,7 +116,7 @@ impl Automaton {
 
     /// The dead states, upwards, for display: the archive refuses an automaton that has any, but does not say which.
     ///
-    /// Dead is a state that a run from the initial state reaches and from which no run reaches an accepting state on a loop.
+    /// Dead is a state that a run from the initial state reaches and from which no run reaches an accepting state on a cycle.
     pub fn dead_states(&self) -> Vec<u8> {
         let after: Vec<u32> = (0..self.states)
             .map(|state| self.reached(self.successors(state)))

@@ -103,7 +103,7 @@ impl Entry {
         layout::is_entry_meant(bytes)
     }
 
-    /// The entry's bytes, in the layout of docs/DECISIONS.md, "The boundary for vendors".
+    /// The entry's bytes, in the layout of docs/reference.md, "The boundary for vendors".
     pub fn to_bytes(&self) -> [u8; ENTRY_BYTES] {
         self.0
     }
@@ -143,9 +143,9 @@ impl Entry {
         }
     }
 
-    /// Whether the held automaton accepts the stem followed by the loop without end. Refusals: 13, 15.
-    pub fn verdict(&self, stem: &[u8], turn: &[u8]) -> Result<bool, Refusal> {
-        verdict(&self.0, stem, turn)
+    /// Whether the held automaton accepts the lasso word of the stem and the loop `cycle`, which repeats without end. Refusals: 13, 15.
+    pub fn verdict(&self, stem: &[u8], cycle: &[u8]) -> Result<bool, Refusal> {
+        verdict(&self.0, stem, cycle)
     }
 
     /// What the entry holds; `None` if it is empty.
@@ -158,8 +158,8 @@ impl Entry {
     }
 }
 
-fn verdict(entry: &[u8], stem: &[u8], turn: &[u8]) -> Result<bool, Refusal> {
-    match archive::entry_verdict(entry, stem, turn) {
+fn verdict(entry: &[u8], stem: &[u8], cycle: &[u8]) -> Result<bool, Refusal> {
+    match archive::entry_verdict(entry, stem, cycle) {
         0 => Ok(false),
         1 => Ok(true),
         kind => Err(Refusal::of_kind(kind, Values::default())),

@@ -69,21 +69,21 @@ pub(crate) fn entry_first_states(entry: &[u8; ENTRY_BYTES]) -> u8 {
 
 /// The edition number.
 pub(crate) fn entry_edition(entry: &[u8; ENTRY_BYTES]) -> u32 {
-    word(entry, 5)
+    four_bytes(entry, 5)
 }
 
 /// The accepting states of the held automaton.
 pub(crate) fn entry_accepting(entry: &[u8; ENTRY_BYTES]) -> u32 {
-    word(entry, 9)
+    four_bytes(entry, 9)
 }
 
 /// The targets of a state on a letter, in the held automaton.
 pub(crate) fn entry_targets(entry: &[u8; ENTRY_BYTES], from: usize, letter: usize) -> u32 {
-    word(entry, 13 + (from * LETTERS + letter) * SET_BYTES)
+    four_bytes(entry, 13 + (from * LETTERS + letter) * SET_BYTES)
 }
 
 /// The number of four bytes from this place on, low byte first; a set of states is one.
-fn word(bytes: &[u8], place: usize) -> u32 {
+fn four_bytes(bytes: &[u8], place: usize) -> u32 {
     u32::from_le_bytes(std::array::from_fn(|byte| bytes[place + byte]))
 }
 

@@ -4,7 +4,7 @@
 //!
 //! | What | Where |
 //! |---|---|
-//! | is every run prefix of one automaton matched by the other within a bound? | [`contain`], [`Buffers::contain`] |
+//! | is every run prefix of one automaton followed by one of the other within a bound? | [`contain`], [`Buffers::contain`] |
 //! | an entry: open it, offer it a smaller edition, ask for a verdict | [`Entry`], [`Buffers::offer`] |
 //! | why a call was refused, and what to do about it | [`Refusal`] |
 //! | the plain numbers | [`archive`] |

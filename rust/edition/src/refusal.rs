@@ -253,7 +253,7 @@ const ROWS: [[&str; 2]; 15] = [
         "write each accepting and each transition record once",
     ],
     [
-        "{file} has a dead state: a run reaches it, and none from it reaches an accepting state on a loop",
+        "{file} has a dead state: a run reaches it, and none from it reaches an accepting state on a cycle",
         "remove the dead states and the transitions to them; `./edition show` marks them",
     ],
     ["the two automata have different numbers of letters", "write both automata over the same letters"],

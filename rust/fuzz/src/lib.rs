@@ -79,8 +79,8 @@ impl Comparison {
         match tag {
             3 => note(Call::Open, history.open(random, &source.file())),
             6 => {
-                let (stem, turn) = (source.word(), source.word());
-                note(Call::Verdict, history.verdict(&stem, &turn));
+                let (stem, cycle) = (source.word(), source.word());
+                note(Call::Verdict, history.verdict(&stem, &cycle));
             }
             _ => {
                 let (file, terms) = (source.file(), source.terms());

@@ -3,31 +3,11 @@
 use crate::automaton::Automaton;
 use crate::dead;
 use crate::file;
-use crate::refusal::Refusal;
-use crate::walk::{check_bound, walk, Walk};
+use crate::refusal::{at, Located, Refusal};
+use crate::walk::{check_bound, walk, Outcome};
 
 /// A refusal of contain, with the file (1 or 2) that it is about where it is 1 to 6.
-#[derive(Clone, Copy, Debug, PartialEq, Eq)]
-pub struct ContainRefusal {
-    /// The row of the table.
-    pub refusal: Refusal,
-    /// Which file, with 1 to 6.
-    pub file: Option<u8>,
-}
-
-impl From<Refusal> for ContainRefusal {
-    fn from(refusal: Refusal) -> ContainRefusal {
-        ContainRefusal { refusal, file: None }
-    }
-}
-
-/// Says which file a refusal is about.
-fn of_file(file: u8) -> impl Fn(Refusal) -> ContainRefusal {
-    move |refusal| ContainRefusal {
-        refusal,
-        file: Some(file),
-    }
-}
+pub type ContainRefusal = Located<u8>;
 
 /// Contain's number: kind + 2^8 count + 2^24 word length.
 pub fn contain(first: &[u8], second: &[u8], bound: u64, work: &mut [u8], word: &mut [u8]) -> u64 {
@@ -41,13 +21,13 @@ pub fn decide(
     bound: u64,
     work: &mut [u8],
     word: &mut [u8],
-) -> Result<Walk, ContainRefusal> {
-    let left = file::read(first).map_err(of_file(1))?;
-    let right = file::read(second).map_err(of_file(2))?;
+) -> Result<Outcome, ContainRefusal> {
+    let left = file::read(first).map_err(at(1))?;
+    let right = file::read(second).map_err(at(2))?;
     let bound = check_bound(bound)?;
     check_letters(&left, &right)?;
-    dead::check(&left).map_err(of_file(1))?;
-    dead::check(&right).map_err(of_file(2))?;
+    dead::check(&left).map_err(at(1))?;
+    dead::check(&right).map_err(at(2))?;
     Ok(walk(&left, &right, bound, work, word)?)
 }
 
@@ -61,12 +41,12 @@ pub fn check_letters(left: &Automaton, right: &Automaton) -> Result<(), Refusal>
 }
 
 /// The one number that tells a result of contain.
-pub fn number(result: &Result<Walk, ContainRefusal>) -> u64 {
+pub fn number(result: &Result<Outcome, ContainRefusal>) -> u64 {
     let (kind, count, length) = match *result {
-        Ok(Walk::Contained { count }) => (0, count as u64, 0),
-        Ok(Walk::Differs { count, length }) => (1, count as u64, length as u64),
-        Err(ContainRefusal { refusal, file }) => {
-            let count = file.map_or(refusal.count(), u64::from);
+        Ok(Outcome::Contained { count }) => (0, count as u64, 0),
+        Ok(Outcome::Differs { count, length }) => (1, count as u64, length as u64),
+        Err(Located { refusal, place }) => {
+            let count = place.map_or(refusal.count(), u64::from);
             (refusal.kind(), count, refusal.word_length())
         }
     };

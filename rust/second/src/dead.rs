@@ -1,4 +1,4 @@
-//! Dead ends: reachable states from which no accepting state on a loop is reached.
+//! Dead ends: reachable states from which no accepting state on a cycle is reached.
 
 use crate::automaton::{closure, contains, members, singleton, Automaton, StateSet};
 use crate::refusal::Refusal;

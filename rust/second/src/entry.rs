@@ -10,8 +10,8 @@ use crate::contain::check_letters;
 use crate::dead;
 use crate::file;
 use crate::lasso;
-use crate::refusal::Refusal;
-use crate::walk::{check_bound, walk, Walk};
+use crate::refusal::{at, Located, Refusal};
+use crate::walk::{check_bound, walk, Outcome};
 
 /// Bytes of an entry's byte form.
 pub const ENTRY_BYTES: usize = 13 + MAX_STATES * MAX_LETTERS * 4;
@@ -88,27 +88,7 @@ pub enum Direction {
 }
 
 /// A refusal of an offer, with the walk that it is about where it is 10 or 11.
-#[derive(Clone, Copy, Debug, PartialEq, Eq)]
-pub struct OfferRefusal {
-    /// The row of the table.
-    pub refusal: Refusal,
-    /// Which walk, with 10 and 11.
-    pub walk: Option<Direction>,
-}
-
-impl From<Refusal> for OfferRefusal {
-    fn from(refusal: Refusal) -> OfferRefusal {
-        OfferRefusal { refusal, walk: None }
-    }
-}
-
-/// Says which walk a refusal is about.
-fn of_walk(direction: Direction) -> impl Fn(Refusal) -> OfferRefusal {
-    move |refusal| OfferRefusal {
-        refusal,
-        walk: Some(direction),
-    }
-}
+pub type OfferRefusal = Located<Direction>;
 
 /// Has the offer fewer states than the held automaton, or as many and fewer transitions?
 fn smaller(offer: &Automaton, held: &Automaton) -> bool {
@@ -152,13 +132,13 @@ impl Entry {
         if !smaller(&offer, held) || edition.number == LAST_EDITION {
             return Err(Refusal::NotSmaller.into());
         }
-        let forward = match walk(held, &offer, bound, work, word).map_err(of_walk(Direction::Forward))? {
-            Walk::Contained { count } => count,
-            Walk::Differs { count, length } => return Ok(Offer::Forward { forward: count, length }),
+        let forward = match walk(held, &offer, bound, work, word).map_err(at(Direction::Forward))? {
+            Outcome::Contained { count } => count,
+            Outcome::Differs { count, length } => return Ok(Offer::Forward { forward: count, length }),
         };
-        let back = match walk(&offer, held, bound, work, word).map_err(of_walk(Direction::Back))? {
-            Walk::Contained { count } => count,
-            Walk::Differs { count, length } => {
+        let back = match walk(&offer, held, bound, work, word).map_err(at(Direction::Back))? {
+            Outcome::Contained { count } => count,
+            Outcome::Differs { count, length } => {
                 return Ok(Offer::Back {
                     forward,
                     back: count,
@@ -172,9 +152,9 @@ impl Entry {
     }
 
     /// The held automaton's verdict on a lasso word. The refusals are 13 and 15.
-    pub fn verdict(&self, stem: &[u8], turn: &[u8]) -> Result<bool, Refusal> {
+    pub fn verdict(&self, stem: &[u8], cycle: &[u8]) -> Result<bool, Refusal> {
         let edition = self.edition.as_ref().ok_or(Refusal::Empty)?;
-        lasso::verdict(&edition.automaton, stem, turn)
+        lasso::verdict(&edition.automaton, stem, cycle)
     }
 
     /// The entry that the bytes stand for; refusal 9 if they are no entry value.
@@ -302,9 +282,9 @@ pub fn offer_number(result: &Result<Offer, OfferRefusal>) -> u64 {
         Ok(Offer::Taken { forward, back }) => (0, forward as u64, back as u64, 0, 0),
         Ok(Offer::Forward { forward, length }) => (1, forward as u64, 0, length as u64, 0),
         Ok(Offer::Back { forward, back, length }) => (2, forward as u64, back as u64, length as u64, 0),
-        Err(OfferRefusal { refusal, walk }) => {
+        Err(Located { refusal, place }) => {
             let (kind, count, needed) = (refusal.kind(), refusal.count(), refusal.word_length());
-            match walk {
+            match place {
                 None => (kind, 0, 0, 0, 0),
                 Some(Direction::Forward) => (kind, count, 0, needed, 1),
                 Some(Direction::Back) => (kind, 0, count, needed, 2),
@@ -315,8 +295,8 @@ pub fn offer_number(result: &Result<Offer, OfferRefusal>) -> u64 {
 }
 
 /// The verdict of an entry in its byte form: 0 no, 1 yes, 100 plus a refusal's number.
-pub fn entry_verdict(entry: &[u8], stem: &[u8], turn: &[u8]) -> u64 {
-    match Entry::from_bytes(entry).and_then(|value| value.verdict(stem, turn)) {
+pub fn entry_verdict(entry: &[u8], stem: &[u8], cycle: &[u8]) -> u64 {
+    match Entry::from_bytes(entry).and_then(|value| value.verdict(stem, cycle)) {
         Ok(accepted) => accepted.into(),
         Err(refusal) => refusal.kind(),
     }

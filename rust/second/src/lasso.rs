@@ -9,14 +9,14 @@ use crate::refusal::Refusal;
 /// Most letters of a stem, and of a loop, that the verdict takes.
 pub const MAX_LASSO: usize = 4096;
 
-/// The verdict on the lasso word that goes through the stem once and then takes turn after turn; refusal 15 if it is no lasso
-/// word of the automaton within the limits.
-pub fn verdict(automaton: &Automaton, stem: &[u8], turn: &[u8]) -> Result<bool, Refusal> {
-    let lengths = stem.len() <= MAX_LASSO && (1..=MAX_LASSO).contains(&turn.len());
-    if !lengths || !has_letters(automaton, stem) || !has_letters(automaton, turn) {
+/// The verdict on the lasso word of the stem and the loop `cycle`; refusal 15 if it is no lasso word of the automaton within the
+/// limits.
+pub fn verdict(automaton: &Automaton, stem: &[u8], cycle: &[u8]) -> Result<bool, Refusal> {
+    let lengths = stem.len() <= MAX_LASSO && (1..=MAX_LASSO).contains(&cycle.len());
+    if !lengths || !has_letters(automaton, stem) || !has_letters(automaton, cycle) {
         return Err(Refusal::Lasso);
     }
-    Ok(recurs(automaton, stem, turn))
+    Ok(recurs(automaton, stem, cycle))
 }
 
 /// Has the automaton every letter of the word?
@@ -24,36 +24,36 @@ fn has_letters(automaton: &Automaton, word: &[u8]) -> bool {
     word.iter().all(|&letter| automaton.has_letter(letter))
 }
 
-/// Does the automaton accept the lasso word? The turn is not empty; its length and the stem's have no limit. No run reads a
-/// letter outside, so a word with one is not accepted.
-pub fn accepts(automaton: &Automaton, stem: &[u8], turn: &[u8]) -> bool {
-    let known = has_letters(automaton, stem) && has_letters(automaton, turn);
-    !turn.is_empty() && known && recurs(automaton, stem, turn)
+/// Does the automaton accept the lasso word of the stem and the loop `cycle`? Its lengths have no limit; of an empty loop the answer is
+/// no. No run reads a letter outside, so a word with one is not accepted.
+pub fn accepts(automaton: &Automaton, stem: &[u8], cycle: &[u8]) -> bool {
+    let known = has_letters(automaton, stem) && has_letters(automaton, cycle);
+    !cycle.is_empty() && known && recurs(automaton, stem, cycle)
 }
 
 /// Does some run on the lasso word, whose letters the automaton has, meet an accepting state again and again?
-fn recurs(automaton: &Automaton, stem: &[u8], turn: &[u8]) -> bool {
+fn recurs(automaton: &Automaton, stem: &[u8], cycle: &[u8]) -> bool {
     let after_stem = stem.iter().fold(singleton(automaton.initial()), |states, &letter| {
         image(automaton.transitions(letter.into()), states)
     });
-    let turns = Turns::new(automaton, turn);
-    let onward = closure(turns.reached, automaton.states());
+    let once = LoopRuns::new(automaton, cycle);
+    let onward = closure(once.reached, automaton.states());
     let before_loop = after_stem | image(&onward, after_stem);
-    let returns = |start: usize| members(turns.met[start]).any(|end| contains(onward[end], start));
+    let returns = |start: usize| members(once.met[start]).any(|end| contains(onward[end], start));
     members(before_loop).any(returns)
 }
 
-/// The runs on one turn, by their first and last states.
-struct Turns {
+/// The runs on one copy of the loop, by their first and last states.
+struct LoopRuns {
     /// There is a run.
     reached: Relation,
     /// There is a run that meets an accepting state, its first and last states included.
     met: Relation,
 }
 
-impl Turns {
+impl LoopRuns {
     /// Both relations are kept side by side in one number for each first state: `reached` low, `met` high.
-    fn new(automaton: &Automaton, turn: &[u8]) -> Turns {
+    fn new(automaton: &Automaton, cycle: &[u8]) -> LoopRuns {
         let accepting = automaton.accepting();
         let states = automaton.states();
         let meet = |state: usize, runs: u64| match contains(accepting, state) {
@@ -61,7 +61,7 @@ impl Turns {
             false => runs,
         };
         let mut runs: [u64; MAX_STATES] = std::array::from_fn(|state| meet(state, singleton(state).into()));
-        for &letter in turn.iter().rev() {
+        for &letter in cycle.iter().rev() {
             let transitions = automaton.transitions(letter.into());
             let after = runs;
             for state in 0..states {
@@ -71,7 +71,7 @@ impl Turns {
             }
         }
         let row = |shift: u32| move |runs: u64| (runs >> shift) as StateSet;
-        Turns {
+        LoopRuns {
             reached: runs.map(row(0)),
             met: runs.map(row(32)),
         }

@@ -84,3 +84,26 @@ impl Refusal {
         }
     }
 }
+
+/// A refusal, with the one of several files or walks of the call that it is about.
+#[derive(Clone, Copy, Debug, PartialEq, Eq)]
+pub struct Located<P> {
+    /// The row of the table.
+    pub refusal: Refusal,
+    /// Which file or walk, where it is about one.
+    pub place: Option<P>,
+}
+
+impl<P> From<Refusal> for Located<P> {
+    fn from(refusal: Refusal) -> Located<P> {
+        Located { refusal, place: None }
+    }
+}
+
+/// Says which file or walk a refusal is about.
+pub fn at<P: Copy>(place: P) -> impl Fn(Refusal) -> Located<P> {
+    move |refusal| Located {
+        refusal,
+        place: Some(place),
+    }
+}

@@ -20,7 +20,7 @@ pub const MAX_SLOTS: usize = 4096;
 
 /// How a walk ends, if neither buffer is too short.
 #[derive(Clone, Copy, Debug, PartialEq, Eq)]
-pub enum Walk {
+pub enum Outcome {
     /// There is no final vertex.
     Contained {
         /// Length of the discovery list.
@@ -53,17 +53,23 @@ pub fn slots(work_length: usize) -> usize {
 ///
 /// # Panics
 /// If the bound is above 14.
-pub fn walk(left: &Automaton, right: &Automaton, bound: u8, work: &mut [u8], word: &mut [u8]) -> Result<Walk, Refusal> {
+pub fn walk(
+    left: &Automaton,
+    right: &Automaton,
+    bound: u8,
+    work: &mut [u8],
+    word: &mut [u8],
+) -> Result<Outcome, Refusal> {
     assert!(bound <= MAX_BOUND);
     let mut discovery = Discovery::new(work);
     let end = discovery.run(left, right, bound);
     let count = discovery.list.len();
     match end {
-        End::Exhausted => Ok(Walk::Contained { count }),
+        End::Exhausted => Ok(Outcome::Contained { count }),
         End::Full => Err(Refusal::Slots { count }),
         End::Final(last) => {
             let length = read_back(work, last, word)?;
-            Ok(Walk::Differs { count, length })
+            Ok(Outcome::Differs { count, length })
         }
     }
 }

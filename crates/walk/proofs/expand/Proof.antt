@@ -36,7 +36,7 @@ loop-holds c =
       refl,
       search needs,
       record { work-long = refl; heads-long = refl; nexts-long = refl; ready = s .pre .0 },
-      c .present-of .ensures,
+      c .present-of .ensures .0,
       letters-start (a .rules) (a .lefts .now) (a .masks .now) (l .load .result) (a .p) (a .work .now) (a .n)
           (l .load .ensures) (s .pre .1),
     )

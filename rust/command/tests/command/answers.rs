@@ -135,8 +135,8 @@ fn an_entry_is_opened_offered_to_and_asked() {
     folder.answers("verdict s  0,1", 0, "yes: the held automaton accepts the word");
     folder.answers("verdict s  0", 1, "no: the held automaton does not accept the word");
     folder.answers("verdict s 1 0", 0, "yes: the held automaton accepts the word");
-    for (stem, turn) in [("", ""), ("2", "0"), ("0", "256"), ("0", "99999999999999999999")] {
-        let run = folder.run(&["verdict", "s", stem, turn]);
+    for (stem, cycle) in [("", ""), ("2", "0"), ("0", "256"), ("0", "99999999999999999999")] {
+        let run = folder.run(&["verdict", "s", stem, cycle]);
         assert!(run.status == 2 && run.out.starts_with("refused 15: "), "{run:?}");
     }
     assert_eq!(folder.names("s"), ["s", "s.lock"]);
@@ -155,7 +155,7 @@ fn a_refused_open_makes_no_store() {
     folder.answers(
         "open s dead.ba",
         2,
-        "refused 6: the file has a dead state: a run reaches it, and none from it reaches an accepting state on a loop",
+        "refused 6: the file has a dead state: a run reaches it, and none from it reaches an accepting state on a cycle",
     );
     assert_eq!(folder.names("s"), [""; 0]);
 }

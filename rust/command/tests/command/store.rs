@@ -1,9 +1,11 @@
 //! What a STORE is after kills, faults of the disk, damage and several offers at once.
 
-use std::fs::{self, OpenOptions, Permissions};
+use std::fs::{self, File, OpenOptions, Permissions};
 use std::io;
 use std::os::unix::fs::{symlink, PermissionsExt};
 use std::process::{Child, Command};
+use std::thread::sleep;
+use std::time::Duration;
 
 use crate::folder::{Folder, Run};
 
@@ -251,6 +253,30 @@ fn locks_that_are_removed_let_no_two_opens_through() {
         assert!(opened == 1 && refused == 5, "{runs:?}");
         assert_eq!(folder.names("s"), ["s", "s.lock"]);
     }
+}
+
+/// A lock file that this test holds.
+fn held_lock(folder: &Folder) -> File {
+    let lock = File::create(folder.path("s.lock")).expect("a lock file");
+    lock.lock().expect("the lock");
+    lock
+}
+
+/// A run waits for a lock that is removed, as by an open that is refused, while another has made the next one: it waits for that too.
+#[test]
+fn a_lock_that_is_removed_is_no_leave_to_go_on() {
+    let folder = Folder::new("removed_lock");
+    let pause = || sleep(Duration::from_millis(300));
+    let first = held_lock(&folder);
+    let run = folder.start(&["open", "s", "f.ba"]);
+    pause();
+    fs::remove_file(folder.path("s.lock")).expect("the lock file");
+    let second = held_lock(&folder);
+    drop(first);
+    pause();
+    assert!(!folder.path("s").exists(), "a run goes on under a lock that is removed");
+    drop(second);
+    assert_eq!(finished(run).out, "opened: edition 0, 4 states\n");
 }
 
 #[test]

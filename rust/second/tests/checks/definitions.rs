@@ -144,17 +144,17 @@ pub fn dead(automaton: &Plain) -> Vec<usize> {
 
 /// Is the lasso word accepted? Some i, j and q are sought: as many copies as there are states are enough for i and for j, since
 /// between copies a shortest run never meets a state twice.
-pub fn accepts(automaton: &Plain, stem: &[u8], turn: &[u8]) -> bool {
+pub fn accepts(automaton: &Plain, stem: &[u8], cycle: &[u8]) -> bool {
     let back_to = |q: usize| {
         (1..=automaton.states).any(|j| {
-            let runs = runs(automaton, q, &turn.repeat(j));
+            let runs = runs(automaton, q, &cycle.repeat(j));
             let back = |run: &&Vec<usize>| run[run.len() - 1] == q;
             let meets = |run: &Vec<usize>| run.iter().any(|&state| automaton.accepts_at(state));
             runs.iter().filter(back).any(meets)
         })
     };
     (0..=automaton.states).any(|i| {
-        let word = [stem, &turn.repeat(i)].concat();
+        let word = [stem, &cycle.repeat(i)].concat();
         let runs = runs(automaton, automaton.initial, &word);
         let ends: BTreeSet<usize> = runs.iter().map(|run| run[run.len() - 1]).collect();
         ends.into_iter().any(back_to)

@@ -482,10 +482,10 @@ fn after_a_list_of_calls_the_entry_holds_the_accounts_last_edition() {
         };
         for _ in 0..5 {
             let lengths = (random.below(3), 1 + random.below(2));
-            let (stem, turn) = (random.word(2, lengths.0), random.word(2, lengths.1));
+            let (stem, cycle) = (random.word(2, lengths.0), random.word(2, lengths.1));
             if first.letters == 2 {
-                let accepted = definitions::accepts(first, &stem, &turn);
-                assert_eq!(entry_verdict(&entry, &stem, &turn), accepted.into());
+                let accepted = definitions::accepts(first, &stem, &cycle);
+                assert_eq!(entry_verdict(&entry, &stem, &cycle), accepted.into());
             }
         }
     }

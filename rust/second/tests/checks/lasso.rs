@@ -20,12 +20,12 @@ fn k8_to_k10_verdicts_of_f() {
 fn f_and_g_agree_on_all_short_lassos() {
     let (f, g) = (f().read(), g().read());
     for stem in (0..=4).flat_map(|length| definitions::words(2, length)) {
-        for turn in (1..=4).flat_map(|length| definitions::words(2, length)) {
+        for cycle in (1..=4).flat_map(|length| definitions::words(2, length)) {
             let both = [0, 1]
                 .iter()
-                .all(|letter| stem.contains(letter) || turn.contains(letter));
-            assert_eq!(accepts(&f, &stem, &turn), both);
-            assert_eq!(accepts(&g, &stem, &turn), both);
+                .all(|letter| stem.contains(letter) || cycle.contains(letter));
+            assert_eq!(accepts(&f, &stem, &cycle), both);
+            assert_eq!(accepts(&g, &stem, &cycle), both);
         }
     }
 }
@@ -68,8 +68,8 @@ fn the_definition_has_no_length_limits() {
 }
 
 #[test]
-fn an_accepting_state_may_need_several_turns() {
-    // Only the fifth state of five accepts, so a run is back at its start after five turns.
+fn an_accepting_state_may_need_several_copies_of_the_loop() {
+    // Only the fifth state of five accepts, so a run is back at its start after five copies of a loop.
     let ring = ring(5).read();
     for length in 1..=12 {
         assert!(accepts(&ring, &[], &vec![0; length]));
@@ -87,14 +87,14 @@ fn an_accepting_state_off_the_loop_does_not_count() {
     assert!(accepts(&h().read(), &[], &[0]));
 }
 
-/// Stems of up to `stem` letters and turns of 1 to `turn` letters.
-fn lassos(letters: usize, stem: usize, turn: usize) -> Vec<(Vec<u8>, Vec<u8>)> {
+/// Stems of up to `stem` letters and loops of 1 to `cycle` letters.
+fn lassos(letters: usize, stem: usize, cycle: usize) -> Vec<(Vec<u8>, Vec<u8>)> {
     let stems = (0..=stem).flat_map(|length| definitions::words(letters, length));
-    let turns: Vec<_> = (1..=turn)
+    let cycles: Vec<_> = (1..=cycle)
         .flat_map(|length| definitions::words(letters, length))
         .collect();
     stems
-        .flat_map(|stem| turns.iter().map(move |turn| (stem.clone(), turn.clone())))
+        .flat_map(|stem| cycles.iter().map(move |cycle| (stem.clone(), cycle.clone())))
         .collect()
 }
 
@@ -105,12 +105,12 @@ fn acceptance_is_that_of_the_definition_for_all_automata_with_two_states() {
         let lassos = lassos(letters, 1, 2);
         for automaton in all(states, letters) {
             let value = automaton.read();
-            for (stem, turn) in &lassos {
-                let found = accepts(&value, stem, turn);
+            for (stem, cycle) in &lassos {
+                let found = accepts(&value, stem, cycle);
                 assert_eq!(
                     found,
-                    definitions::accepts(&automaton, stem, turn),
-                    "{automaton:?} {stem:?} {turn:?}"
+                    definitions::accepts(&automaton, stem, cycle),
+                    "{automaton:?} {stem:?} {cycle:?}"
                 );
                 verdicts[usize::from(found)] += 1;
             }
@@ -128,12 +128,12 @@ fn acceptance_is_that_of_the_definition_for_random_automata() {
         let automaton = random.automaton(states, 2, 1);
         let value = automaton.read();
         let lengths = (random.below(4), 1 + random.below(3));
-        let (stem, turn) = (random.word(2, lengths.0), random.word(2, lengths.1));
-        let found = accepts(&value, &stem, &turn);
+        let (stem, cycle) = (random.word(2, lengths.0), random.word(2, lengths.1));
+        let found = accepts(&value, &stem, &cycle);
         assert_eq!(
             found,
-            definitions::accepts(&automaton, &stem, &turn),
-            "{automaton:?} {stem:?} {turn:?}"
+            definitions::accepts(&automaton, &stem, &cycle),
+            "{automaton:?} {stem:?} {cycle:?}"
         );
         verdicts[usize::from(found)] += 1;
     }
@@ -148,11 +148,11 @@ fn a_verdict_does_not_depend_on_how_the_lasso_is_written() {
         let (states, letters) = (1 + random.below(32), 1 + random.below(4));
         let value = random.automaton(states, letters, 1).read();
         let lengths = (random.below(6), 1 + random.below(6));
-        let (stem, turn) = (random.word(letters, lengths.0), random.word(letters, lengths.1));
-        let found = accepts(&value, &stem, &turn);
-        assert_eq!(accepts(&value, &stem, &turn.repeat(3)), found);
-        assert_eq!(accepts(&value, &[stem.as_slice(), &turn].concat(), &turn), found);
-        let (first, rest) = turn.split_first().unwrap();
+        let (stem, cycle) = (random.word(letters, lengths.0), random.word(letters, lengths.1));
+        let found = accepts(&value, &stem, &cycle);
+        assert_eq!(accepts(&value, &stem, &cycle.repeat(3)), found);
+        assert_eq!(accepts(&value, &[stem.as_slice(), &cycle].concat(), &cycle), found);
+        let (first, rest) = cycle.split_first().unwrap();
         let shifted = [rest, &[*first]].concat();
         assert_eq!(accepts(&value, &[stem.as_slice(), &[*first]].concat(), &shifted), found);
     }

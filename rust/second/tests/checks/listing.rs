@@ -10,28 +10,21 @@ fn line(input: &[u8], first: &[u8], offer: &[u8]) -> String {
     String::from_utf8(listing(input, first, offer)).expect("the line is text")
 }
 
+/// The automata and the bound print this line.
+fn prints(bound: u8, [held, offer]: [Plain; 2], text: &str) {
+    assert_eq!(line(&[bound], &held.file(), &offer.file()), text);
+}
+
 #[test]
 fn the_documents_two_lines() {
-    assert_eq!(
-        line(&[1], &f().file(), &g().file()),
-        "taken 1 states 3 of 4 saved 25 walks 5 8\n"
-    );
-    assert_eq!(
-        line(&[0], &f().file(), &g().file()),
-        "back 0 states 4 of 4 saved 0 walks 4 2 word 0\n"
-    );
+    prints(1, [f(), g()], "taken 1 states 3 of 4 saved 25 walks 5 8\n");
+    prints(0, [f(), g()], "back 0 states 4 of 4 saved 0 walks 4 2 word 0\n");
 }
 
 #[test]
 fn an_empty_word_ends_the_line_at_word() {
-    assert_eq!(
-        line(&[0], &j().file(), &h().file()),
-        "back 0 states 2 of 2 saved 0 walks 2 0 word\n"
-    );
-    assert_eq!(
-        line(&[1], &j().file(), &h().file()),
-        "taken 1 states 1 of 2 saved 50 walks 2 2\n"
-    );
+    prints(0, [j(), h()], "back 0 states 2 of 2 saved 0 walks 2 0 word\n");
+    prints(1, [j(), h()], "taken 1 states 1 of 2 saved 50 walks 2 2\n");
 }
 
 #[test]

@@ -1,17 +1,17 @@
 //! The walk: against the discovery list of the definition, and against runs and lags.
 
 use second::refusal::Refusal;
-use second::walk::{check_bound, slots, walk, Walk};
+use second::walk::{check_bound, slots, walk, Outcome};
 
 use crate::definitions::{self, contained_on, discovery, pending, runs, shortest_difference, visits, way, Lags};
 use crate::random::Random;
 use crate::worked::{all, everything, f, g, h, j, window, Plain};
 
 /// Kind, count and word length of a walk's result.
-fn parts(result: Result<Walk, Refusal>) -> (u64, usize, usize) {
+fn parts(result: Result<Outcome, Refusal>) -> (u64, usize, usize) {
     match result {
-        Ok(Walk::Contained { count }) => (0, count, 0),
-        Ok(Walk::Differs { count, length }) => (1, count, length),
+        Ok(Outcome::Contained { count }) => (0, count, 0),
+        Ok(Outcome::Differs { count, length }) => (1, count, length),
         Err(Refusal::Slots { count }) => (110, count, 0),
         Err(Refusal::Word { needed }) => (111, 0, needed),
         Err(refusal) => panic!("{refusal:?} is no refusal of the walk"),
@@ -53,7 +53,7 @@ fn the_bound_is_a_number_and_never_cut_to_a_byte() {
 fn h_in_j_leaves_the_slots_computed_by_hand() {
     let mut work = [0xAA; 85];
     let found = walk(&h().read(), &j().read(), 1, &mut work, &mut []);
-    assert_eq!(found, Ok(Walk::Contained { count: 2 }));
+    assert_eq!(found, Ok(Outcome::Contained { count: 2 }));
     let mut expected = [0xAA; 85];
     expected[..80].fill(0);
     expected[1] = 1;
@@ -67,7 +67,7 @@ fn g_in_f_leaves_the_slots_computed_by_hand() {
     let mut work = [0xAA; 120];
     let mut word = [0xBB; 3];
     let found = walk(&g().read(), &f().read(), 0, &mut work, &mut word);
-    assert_eq!(found, Ok(Walk::Differs { count: 2, length: 1 }));
+    assert_eq!(found, Ok(Outcome::Differs { count: 2, length: 1 }));
     let mut expected = [0xAA; 120];
     expected[..80].fill(0);
     expected[1] = 1;
@@ -171,9 +171,9 @@ fn compare_with_runs(left: &Plain, right: &Plain, bound: u8, lags: &Lags) -> u64
     let shortest = shortest_difference(left, right, bound.into(), limit, lags);
     let context = || format!("{left:?}\n{right:?}\nbound {bound}: {result:?}");
     match result {
-        Ok(Walk::Contained { .. }) => assert_eq!(shortest, None, "{}", context()),
-        Ok(Walk::Differs { length, .. }) if length > limit => assert_eq!(shortest, None, "{}", context()),
-        Ok(Walk::Differs { length, .. }) => {
+        Ok(Outcome::Contained { .. }) => assert_eq!(shortest, None, "{}", context()),
+        Ok(Outcome::Differs { length, .. }) if length > limit => assert_eq!(shortest, None, "{}", context()),
+        Ok(Outcome::Differs { length, .. }) => {
             assert_eq!(shortest, Some(length), "{}", context());
             assert!(
                 !contained_on(left, right, bound.into(), &word[..length], lags),

@@ -43,73 +43,42 @@ impl Plain {
     }
 }
 
-pub fn f() -> Plain {
-    Plain {
-        states: 4,
-        letters: 2,
-        initial: 0,
-        accepting: vec![3],
-        transitions: vec![
-            (0, 0, 2),
-            (0, 1, 1),
-            (1, 0, 3),
-            (1, 1, 1),
-            (2, 0, 2),
-            (2, 1, 3),
-            (3, 0, 3),
-            (3, 1, 3),
-        ],
+/// An automaton that begins in state 0; the targets of each state are listed for letter 0, then for letter 1.
+fn begun<const N: usize>(letters: usize, accepting: &[usize], targets: [&[&[usize]]; N]) -> Plain {
+    let mut transitions = Vec::new();
+    for (from, rows) in targets.iter().enumerate() {
+        for (letter, row) in rows.iter().enumerate() {
+            transitions.extend(row.iter().map(|&to| (from, letter, to)));
+        }
     }
+    Plain {
+        states: N,
+        letters,
+        initial: 0,
+        accepting: accepting.to_vec(),
+        transitions,
+    }
+}
+
+pub fn f() -> Plain {
+    begun(2, &[3], [&[&[2], &[1]], &[&[3], &[1]], &[&[2], &[3]], &[&[3], &[3]]])
 }
 
 pub fn g() -> Plain {
-    Plain {
-        states: 3,
-        letters: 2,
-        initial: 0,
-        accepting: vec![1, 2],
-        transitions: vec![
-            (0, 0, 0),
-            (0, 0, 2),
-            (0, 1, 0),
-            (0, 1, 1),
-            (1, 0, 1),
-            (1, 0, 2),
-            (2, 1, 1),
-            (2, 1, 2),
-        ],
-    }
+    begun(2, &[1, 2], [&[&[0, 2], &[0, 1]], &[&[1, 2], &[]], &[&[], &[1, 2]]])
 }
 
 pub fn h() -> Plain {
-    Plain {
-        states: 1,
-        letters: 1,
-        initial: 0,
-        accepting: vec![0],
-        transitions: vec![(0, 0, 0)],
-    }
+    begun(1, &[0], [&[&[0]]])
 }
 
 pub fn j() -> Plain {
-    Plain {
-        states: 2,
-        letters: 1,
-        initial: 0,
-        accepting: vec![1],
-        transitions: vec![(0, 0, 1), (1, 0, 1)],
-    }
+    begun(1, &[1], [&[&[1]], &[&[1]]])
 }
 
 /// One state that accepts and loops on every letter.
 pub fn everything(letters: usize) -> Plain {
-    Plain {
-        states: 1,
-        letters,
-        initial: 0,
-        accepting: vec![0],
-        transitions: (0..letters).map(|letter| (0, letter, 0)).collect(),
-    }
+    begun(letters, &[0], [&vec![[0].as_slice(); letters]])
 }
 
 /// Accepts everything, and remembers in its runs which of the last `window` letters were 1: as a right automaton it has 2 to the
@@ -141,13 +110,7 @@ pub fn ring(states: usize) -> Plain {
 
 /// Never accepts on letter 0; letter 1 leads to an accepting loop.
 pub fn idle() -> Plain {
-    Plain {
-        states: 2,
-        letters: 2,
-        initial: 0,
-        accepting: vec![1],
-        transitions: vec![(0, 0, 0), (0, 1, 1), (1, 0, 1)],
-    }
+    begun(2, &[1], [&[&[0], &[1]], &[&[1]]])
 }
 
 /// Every automaton with this many states and letters; 18 possible transitions at most.

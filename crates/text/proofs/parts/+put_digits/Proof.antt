@@ -1,4 +1,4 @@
--- `report::parts::put_digits` meets its contract, by the equations of the decimal digits. The measure is the number. Assumes nothing.
+-- `text::parts::put_digits` meets its contract, by the equations of the decimal digits. The measure is the number. Assumes nothing.
 use mathlib.Core.Path.{ap, _∙_}
 use Prim.Native.Nat.{ℕ, _<_}
 use native.Mathlib.Omega.{arith}

@@ -1,4 +1,4 @@
--- `report::parts::put_byte` meets its contract: one store is one byte written. Assumes nothing.
+-- `text::parts::put_byte` meets its contract: one store is one byte written. Assumes nothing.
 use borrow.Author.Needs.{needs}
 use Rattle.text.proofs.Buffers.{written-byte}
 use Rattle.text.proofs.parts.put_byte.Statement.{statement}

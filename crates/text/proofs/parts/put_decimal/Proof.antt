@@ -1,4 +1,4 @@
--- `report::parts::put_decimal` meets its contract: a number below 2 ^ 64 has at most 20 digits. Assumes nothing.
+-- `text::parts::put_decimal` meets its contract: a number below 2 ^ 64 has at most 20 digits. Assumes nothing.
 use native.Mathlib.Omega.{arith}
 use borrow.Author.Needs.{needs}
 use Rattle.text.proofs.Decimals.{decimal-length}

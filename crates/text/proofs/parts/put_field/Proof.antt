@@ -1,4 +1,4 @@
--- `report::parts::put_field` meets its contract: a text and a number behind it. Assumes nothing.
+-- `text::parts::put_field` meets its contract: a text and a number behind it. Assumes nothing.
 use native.Mathlib.Omega.{arith}
 use borrow.Author.Needs.{needs}
 use Rattle.text.proofs.Buffers.{written-append}

@@ -1,4 +1,4 @@
--- `report::parts::put_letter` meets its contract: a space, and a number below 256, which has at most 3 digits. Assumes nothing.
+-- `text::parts::put_letter` meets its contract: a space, and a number below 256, which has at most 3 digits. Assumes nothing.
 use native.Mathlib.Omega.{arith}
 use borrow.Author.Needs.{needs}
 use Rattle.text.proofs.Buffers.{written-append}

@@ -1,4 +1,4 @@
--- `report::parts::put_letters` meets its contract. The loop's invariant: the first i letters are written, in at most 4 bytes each.
+-- `text::parts::put_letters` meets its contract. The loop's invariant: the first i letters are written, in at most 4 bytes each.
 -- Assumes nothing.
 use mathlib.Core.Path.{_≡_, sym, ap, _∙_}
 use Prim.Native.Nat.{ℕ, _+_, _-_, _*_, _≤_}

@@ -1,4 +1,4 @@
--- `report::parts::put_text` meets its contract. The loop's invariant: the first i bytes of the text are copied into the line.
+-- `text::parts::put_text` meets its contract. The loop's invariant: the first i bytes of the text are copied into the line.
 -- Assumes nothing.
 use mathlib.Core.Path.{_≡_, refl, ap, _∙_}
 use mathlib.Core.List.{List}

@@ -1,4 +1,4 @@
--- `report::saved::hundred_times` meets its contract. The loop's invariant: the share is that of so many times the saved states.
+-- `text::saved::hundred_times` meets its contract. The loop's invariant: the share is that of so many times the saved states.
 -- Assumes nothing.
 use mathlib.Core.Path.{_≡_, ap, _∙_}
 use Prim.Native.Nat.{ℕ, _+_, _-_, _*_, _≤_, _<_}

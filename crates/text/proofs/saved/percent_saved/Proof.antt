@@ -1,4 +1,4 @@
--- `report::saved::percent_saved` meets its contract: nothing is saved, or the division with rest is rounded. Assumes nothing.
+-- `text::saved::percent_saved` meets its contract: nothing is saved, or the division with rest is rounded. Assumes nothing.
 use mathlib.Core.Path.{sym}
 use native.Mathlib.Omega.{arith}
 use borrow.Author.Needs.{needs}

@@ -1,0 +1,55 @@
+/* Wrong kernels for the test of tools/compare: the archive's functions, renamed to right_NAME, with the mistake that MISTAKE numbers. */
+#include <edition.h>
+
+enum { SLOT = EDITION_SLOT_BYTES };
+
+uint64_t right_contain(const uint8_t *, size_t, const uint8_t *, size_t, uint64_t, uint8_t *, size_t, uint8_t *, size_t);
+uint64_t right_entry_open(uint8_t *, size_t, const uint8_t *, size_t);
+uint64_t right_entry_offer(uint8_t *, size_t, const uint8_t *, size_t, uint64_t, uint8_t *, size_t, uint8_t *, size_t);
+uint64_t right_entry_verdict(const uint8_t *, size_t, const uint8_t *, size_t, const uint8_t *, size_t);
+
+uint64_t contain(const uint8_t *first, size_t first_len, const uint8_t *second, size_t second_len, uint64_t bound, uint8_t *work, size_t work_len,
+                 uint8_t *word, size_t word_len) {
+    if (MISTAKE == 1 && bound == 15) bound = 14; /* bound 15 passes as 14 */
+    if (MISTAKE == 2 && bound == 256) bound = 0; /* the bound is cut to a byte */
+    if (MISTAKE == 20 && first_len == 0) first_len = *first; /* a buffer of no bytes is read, also where it is NULL */
+    uint64_t number = right_contain(first, first_len, second, second_len, bound, work, work_len, word, word_len);
+    size_t count = edition_contain_count(number), letters = edition_contain_word(number);
+    unsigned kind = edition_kind(number), refusal = edition_refusal(number);
+    if (MISTAKE == 3 && kind == EDITION_CONTAINED && count == EDITION_MAX_SLOTS) number -= 1 << 8; /* the longest list is one too short */
+    if (MISTAKE == 4 && kind == EDITION_DIFFERS && letters == EDITION_MAX_WORD) word[letters - 1] ^= 1; /* the last letter of the longest word */
+    if (MISTAKE == 5 && kind == EDITION_DIFFERS && letters < word_len) word[letters] = 0; /* the byte behind the word is cleared */
+    if (MISTAKE == 6 && refusal == EDITION_REFUSED_WORD && word_len) word[0] = 0; /* a word that does not fit is begun */
+    if (MISTAKE == 7 && refusal == EDITION_REFUSED_SLOTS && work_len % SLOT) work[work_len - 1] ^= 1; /* the bytes behind the slots */
+    if (MISTAKE == 8 && kind <= EDITION_DIFFERS && count > 0 && count * SLOT <= work_len) work[(count - 1) * SLOT + 39] = 1; /* a slot's last byte */
+    if (MISTAKE == 9 && refusal == EDITION_REFUSED_DEAD) number = 100 + EDITION_REFUSED_DEAD + (1 << 8); /* a dead second file is told as first */
+    return number;
+}
+
+uint64_t entry_open(uint8_t *entry, size_t entry_len, const uint8_t *file, size_t file_len) {
+    if (MISTAKE == 10 && file_len == 82023) return 100 + EDITION_REFUSED_FILE_ENDS; /* the longest file is too long */
+    uint64_t number = right_entry_open(entry, entry_len, file, file_len);
+    unsigned refusal = edition_refusal(number);
+    if (MISTAKE == 11 && refusal == EDITION_REFUSED_MALFORMED && entry_len > EDITION_ENTRY_BYTES) entry[entry_len - 1] = 0; /* no entry, and written */
+    return number;
+}
+
+uint64_t entry_offer(uint8_t *entry, size_t entry_len, const uint8_t *file, size_t file_len, uint64_t bound, uint8_t *work, size_t work_len, uint8_t *word,
+                     size_t word_len) {
+    if (MISTAKE == 12 && work_len > EDITION_MAX_WORK) work_len = EDITION_MAX_WORK - 1; /* one slot less where there are more bytes than are used */
+    if (MISTAKE == 13 && entry_len == EDITION_ENTRY_BYTES && edition_number(entry) == 183070) /* one number less for editions */
+        return 100 + EDITION_REFUSED_NOT_SMALLER;
+    uint64_t number = right_entry_offer(entry, entry_len, file, file_len, bound, work, work_len, word, word_len);
+    if (MISTAKE == 14 && edition_kind(number) == EDITION_TAKEN) entry[4] = entry[1]; /* the first states become the held ones */
+    if (MISTAKE == 15 && edition_kind(number) == EDITION_BACK) number &= ~(uint64_t)0xffff00; /* the forward count is lost */
+    if (MISTAKE == 16 && edition_refusal(number) == EDITION_REFUSED_WORD) number = (number & 0xffffffffffffff) | (uint64_t)1 << 56; /* always walk 1 */
+    return number;
+}
+
+uint64_t entry_verdict(const uint8_t *entry, size_t entry_len, const uint8_t *stem, size_t stem_len, const uint8_t *loop, size_t loop_len) {
+    if (MISTAKE == 17 && loop_len == EDITION_MAX_LASSO) return 100 + EDITION_REFUSED_LASSO; /* the longest loop is too long */
+    if (MISTAKE == 18 && stem_len == EDITION_MAX_LASSO + 1) stem_len--; /* a stem of 4,097 letters passes */
+    uint64_t number = right_entry_verdict(entry, entry_len, stem, stem_len, loop, loop_len);
+    if (MISTAKE == 19 && number == EDITION_YES && loop_len == 6 && stem_len == 6) number = EDITION_NO; /* some accepted words */
+    return number;
+}
