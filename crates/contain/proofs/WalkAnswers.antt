@@ -8,10 +8,10 @@ use Rattle.automaton.specs.declared.Automaton.{Automaton}
 use Rattle.automaton.specs.Automata.{InRange}
 use Rattle.slots.specs.declared.Vertex.{Vertex}
 use Rattle.slots.specs.Slots.{slotCount}
-use Rattle.walk.specs.declared.Walked.the-variants as answer
+use Rattle.discovery.specs.declared.Walked.the-variants as answer
 use Rattle.graph.specs.Discovery.{Node, Walk, going, ended, full}
 use Rattle.graph.specs.Walks.{walkOf, workAfter, wordOf, wordAfter}
-use Rattle.walk.specs.Representation.{walkedOf}
+use Rattle.discovery.specs.Representation.{walkedOf}
 use Rattle.walk.proofs.FinalWords.{FoundFinal}
 use Rattle.answers.specs.declared.Comparison.the-variants.{Contained, NoSlots}
 use Rattle.answers.specs.Contain.{differing, comparison, walkWord}

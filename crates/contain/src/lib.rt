@@ -1,7 +1,7 @@
 // The contain call: whether a first automaton is contained in a second at a bound. The crate `answers` says what it answers and leaves.
 ghost use mathlib.Core.Path.{_≡_};
 ghost use Prim.Native.Nat.{_≤_};
-ghost use Rattle.automaton.specs.Automata.{InRange};
+ghost use Rattle.automaton.specs.Automata.{wholeOf, InRange};
 ghost use Rattle.graph.specs.LagGraph.{maxBound};
 ghost use Rattle.answers.specs.Contain.{differing, comparing, deciding, containing};
 ghost use Rattle.answers.specs.Demand1.{Demand1};
@@ -9,7 +9,8 @@ ghost use Rattle.answers.specs.Demand2.{Demand2};
 use answers::Comparison;
 use answers::Outcome;
 use automaton::Automaton;
-use walk::Walked;
+use automaton::Head;
+use discovery::Walked;
 
 // The largest bound.
 pub const MAX_BOUND: u64 = 14;
@@ -25,9 +26,42 @@ fn differing(place: usize, len: usize, room: usize) -> Comparison
     }
 }
 
-// The walk of two automata from the start of the work buffer, and its word in front in the word buffer where there is one and
-// it has room.
+// The walk of two automata, whose transitions are lent, from the start of the work buffer, and its word in front in the word buffer where there
+// is one and it has room.
 pub fn compare(
+    left: Head,
+    lefts: &[u8; 2048],
+    right: Head,
+    rights: &[u8; 2048],
+    bound: usize,
+    work: &mut [u8],
+    word: &mut [u8],
+) -> Comparison
+    requires { ⌜ InRange (wholeOf left (now lefts)) × InRange (wholeOf right (now rights)) × (bound ≤ maxBound) ⌝ }
+    ensures answer { λ r. ⌜
+        r ≡ comparing (wholeOf left (now (lefts .entry))) (wholeOf right (now (rights .entry))) bound (now (work .entry)) (now (word .entry)) .answer
+        ⌝ }
+    ensures work { λ r. ⌜
+        now (work .exit)
+        ≡ comparing (wholeOf left (now (lefts .entry))) (wholeOf right (now (rights .entry))) bound (now (work .entry)) (now (word .entry)) .work
+        ⌝ }
+    ensures word { λ r. ⌜
+        now (word .exit)
+        ≡ comparing (wholeOf left (now (lefts .entry))) (wholeOf right (now (rights .entry))) bound (now (work .entry)) (now (word .entry)) .word
+        ⌝ }
+{
+    match walk::walk(left, lefts, right, rights, bound, work) {
+        Walked::Going(n) => Comparison::Contained(n),
+        Walked::Ended(place, letter, parent) => {
+            let len = walk::final_word(work, place, letter, parent, word);
+            differing(place, len, word.len())
+        }
+        Walked::Full(n) => Comparison::NoSlots(n),
+    }
+}
+
+// The same of two automata by value, for entries.
+pub fn compare_automata(
     left: Automaton,
     right: Automaton,
     bound: usize,
@@ -39,28 +73,41 @@ pub fn compare(
     ensures work { λ r. ⌜ now (work .exit) ≡ comparing left right bound (now (work .entry)) (now (word .entry)) .work ⌝ }
     ensures word { λ r. ⌜ now (word .exit) ≡ comparing left right bound (now (work .entry)) (now (word .entry)) .word ⌝ }
 {
-    match walk::walk(left, right, bound, work) {
-        Walked::Going(n) => Comparison::Contained(n),
-        Walked::Ended(place, letter, parent) => {
-            let len = walk::final_word(work, place, letter, parent, word);
-            differing(place, len, word.len())
-        }
-        Walked::Full(n) => Comparison::NoSlots(n),
-    }
+    let left_head = automaton::head_of(left);
+    let right_head = automaton::head_of(right);
+    compare(
+        left_head,
+        &left.transitions,
+        right_head,
+        &right.transitions,
+        bound,
+        work,
+        word,
+    )
 }
 
 // The checks of two automata in order, bound, letter counts and dead states, and then their walk.
 fn decide(
-    left: Automaton,
-    right: Automaton,
+    left: Head,
+    lefts: &[u8; 2048],
+    right: Head,
+    rights: &[u8; 2048],
     bound: u64,
     work: &mut [u8],
     word: &mut [u8],
 ) -> Outcome
-    requires { ⌜ InRange left × InRange right ⌝ }
-    ensures outcome { λ r. ⌜ r ≡ deciding left right bound (now (work .entry)) (now (word .entry)) .outcome ⌝ }
-    ensures work { λ r. ⌜ now (work .exit) ≡ deciding left right bound (now (work .entry)) (now (word .entry)) .work ⌝ }
-    ensures word { λ r. ⌜ now (word .exit) ≡ deciding left right bound (now (work .entry)) (now (word .entry)) .word ⌝ }
+    requires { ⌜ InRange (wholeOf left (now lefts)) × InRange (wholeOf right (now rights)) ⌝ }
+    ensures outcome { λ r. ⌜
+        r ≡ deciding (wholeOf left (now (lefts .entry))) (wholeOf right (now (rights .entry))) bound (now (work .entry)) (now (word .entry)) .outcome
+        ⌝ }
+    ensures work { λ r. ⌜
+        now (work .exit)
+        ≡ deciding (wholeOf left (now (lefts .entry))) (wholeOf right (now (rights .entry))) bound (now (work .entry)) (now (word .entry)) .work
+        ⌝ }
+    ensures word { λ r. ⌜
+        now (word .exit)
+        ≡ deciding (wholeOf left (now (lefts .entry))) (wholeOf right (now (rights .entry))) bound (now (work .entry)) (now (word .entry)) .word
+        ⌝ }
 {
     if MAX_BOUND < bound {
         return Outcome::Refused(8, 0);
@@ -68,13 +115,13 @@ fn decide(
     if left.letters != right.letters {
         return Outcome::Refused(7, 0);
     }
-    if deadend::has_dead(left) {
+    if deadend::has_dead_in(left, lefts) {
         return Outcome::Refused(6, 1);
     }
-    if deadend::has_dead(right) {
+    if deadend::has_dead_in(right, rights) {
         return Outcome::Refused(6, 2);
     }
-    Outcome::Compared(compare(left, right, bound as usize, work, word))
+    Outcome::Compared(compare(left, lefts, right, rights, bound as usize, work, word))
 }
 
 // Whether the first file's automaton is contained in the second's at the bound: the outcome, every byte of work and word, and
@@ -98,15 +145,17 @@ pub fn contain(first: &[u8], second: &[u8], bound: u64, work: &mut [u8], word: &
         Demand2 (now (first .entry)) (now (second .entry)) bound (now (work .entry)) (now (word .entry))
         ⌝ }
 {
-    let one = file::read(first);
+    let mut lefts = [0u8; 2048];
+    let one = file::read_into(first, &mut lefts);
     if one.refusal != 0 {
         return Outcome::Refused(one.refusal, 1);
     }
-    let two = file::read(second);
+    let mut rights = [0u8; 2048];
+    let two = file::read_into(second, &mut rights);
     if two.refusal != 0 {
         return Outcome::Refused(two.refusal, 2);
     }
-    let left = one.automaton;
-    let right = two.automaton;
-    decide(left, right, bound, work, word)
+    let left = one.head;
+    let right = two.head;
+    decide(left, &lefts, right, &rights, bound, work, word)
 }

@@ -6,7 +6,7 @@ use conditions::MAX_EDITION;
 use conditions::malformed;
 use conditions::smaller;
 use contain::MAX_BOUND;
-use contain::compare;
+use contain::compare_automata;
 use history::Entry;
 use history::OfferAnswer;
 use history::OfferResult;
@@ -105,9 +105,9 @@ fn walk_both(
     ensures work { λ r. ⌜ now (work .exit) ≡ walksWork (walksOf held offer bound (now (work .entry)) (now (word .entry))) ⌝ }
     ensures word { λ r. ⌜ now (word .exit) ≡ walksWord (walksOf held offer bound (now (work .entry)) (now (word .entry))) ⌝ }
 {
-    match compare(held, offer, bound, work, word) {
+    match compare_automata(held, offer, bound, work, word) {
         Comparison::Contained(count) => {
-            back_answer(count, compare(offer, held, bound, work, word))
+            back_answer(count, compare_automata(offer, held, bound, work, word))
         }
         Comparison::Differs(place, len) => OfferAnswer::Forward(place, len),
         Comparison::NoSlots(slots) => OfferAnswer::NoSlots(1, slots),

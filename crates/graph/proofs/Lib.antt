@@ -1,6 +1,7 @@
 -- Laws of the discovery list, and the theorem that the walk decides containment.
 pub mod Discoveries
 pub mod Capacity
+pub mod Unlisted
 pub mod Parents
 pub mod DiscoveryLaws
 pub mod Words

@@ -81,7 +81,7 @@ some-cut f g n m l e none =
 pub power-word : (q : ℕ) → q < 32 → 2 ^ q < 4294967296
 power-word q h = let l : 2 ^ q ≤ 2 ^ 31 = pow-le-pow-right (omega arith) {i = q} {j = 31} (omega arith) in omega arith
 
-bit-and : (w v j : ℕ) → bit (bitAnd w v) j ≡ (bit w j && bit v j)
+pub bit-and : (w v j : ℕ) → bit (bitAnd w v) j ≡ (bit w j && bit v j)
 bit-and w v j =
     ap (λ (x : ℕ). eqb x 1) (ap (λ (x : ℕ). x % 2) (and-shr w v j) ∙ and-mod (w / 2 ^ j) (v / 2 ^ j) 1)
     ∙ go (w / 2 ^ j % 2) (v / 2 ^ j % 2) (omega arith) (omega arith)

@@ -1,22 +1,20 @@
 -- Vertices and counters compared one counter at a time, as the code compares them: a counter that differs decides, and so do
 -- all of them together. Assumes nothing.
-use mathlib.Core.Path.{_≡_, refl, sym, ap, ap₂, subst}
+use mathlib.Core.Path.{_≡_, refl, sym, ap, subst}
 use mathlib.Core.Bool.{Bool, true, false, _&&_}
 use mathlib.Core.Logic.{⊎-elim}
 use mathlib.Core.List.{List, [], _∷_}
-use Prim.Native.Nat.{ℕ, zero, suc, _+_, _*_, _-_, _/_, _%_, _^_, _≤_, _<_}
+use Prim.Native.Nat.{ℕ, zero, suc, _+_, _<_}
 use native.Mathlib.Nat.{eq-or-lt-of-le}
 use native.Mathlib.Numerals.{add-one}
 use native.Mathlib.Omega.{arith}
 use borrow.Author.Tests.{eq-eqb}
 use lib.Dec.{T}
 use lib.ListN.{length, getD}
-use lib.Seq.{ext-getD}
 use Rattle.automaton.proofs.Tests.{T-true, not-T-false, and-both, is-true, clash}
 use Rattle.slots.specs.declared.Vertex.{Vertex}
 use Rattle.slots.specs.Slots.{sameVertex, allZero}
-use Rattle.slots.specs.Bytes.{fourFrom, mixed}
-use Rattle.slots.proofs.Vertices.{same-vertex-eq, same-vertex-refl, all-zero-at}
+use Rattle.slots.proofs.Vertices.{same-vertex-eq, all-zero-at}
 
 pub not-zero-at : (cs : List ℕ) (i : ℕ) → (getD cs i 0 ≡ 0 → ⊥) → allZero cs ≡ false
 not-zero-at cs i n = not-T-false (allZero cs) (λ t. n (all-zero-at cs t i))
@@ -64,24 +62,3 @@ every-is f n x all one = go (every f n) refl
 module _ (u v : Vertex) where
   pub left-differs : (u .left ≡ v .left → ⊥) → sameVertex u v ≡ false
   left-differs n = not-T-false (sameVertex u v) (λ t. n (ap (λ (x : Vertex). x .left) (same-vertex-eq u v t)))
-
-  pub counter-differs : (i : ℕ) → (getD (u .counters) i 0 ≡ getD (v .counters) i 0 → ⊥) → sameVertex u v ≡ false
-  counter-differs i n =
-      not-T-false (sameVertex u v) (λ t. n (ap (λ (x : Vertex). getD (x .counters) i 0) (same-vertex-eq u v t)))
-
-  pub same-everywhere : u .left ≡ v .left → length (u .counters) ≡ length (v .counters)
-      → ((k : ℕ) → k < length (u .counters) → getD (u .counters) k 0 ≡ getD (v .counters) k 0) → sameVertex u v ≡ true
-  same-everywhere l n h =
-      let e : u ≡ v = ap₂ (λ (x : ℕ) (cs : List ℕ). record { left = x; counters = cs }) l (ext-getD 0 (u .counters) (v .counters) n h) in
-      T-true (sameVertex u v) (subst (λ (x : Vertex). T (sameVertex u x)) e (same-vertex-refl u))
-
--- the hash of counters, four at a time
-module _ (cs : List ℕ) (h i : ℕ) where
-  pub mixed-more : (y : ℕ) → i < 32 → i % 4 ≡ 0 → y ≡ fourFrom cs i
-      → mixed cs ((h * 31 + y) % 2 ^ 36) (8 - (i + 4) / 4) (i + 4) ≡ mixed cs h (8 - i / 4) i
-  unfolding mixed
-  mixed-more y l d e = let q : 8 - i / 4 ≡ suc (8 - (i + 4) / 4) = omega arith in rw (q, e)
-
-  pub mixed-end : 32 ≤ i → mixed cs h (8 - i / 4) i ≡ h
-  unfolding mixed
-  mixed-end l = let q : 8 - i / 4 ≡ 0 = omega arith in rw q

@@ -2,5 +2,4 @@
 pub mod Vertices
 pub mod Compared
 pub mod SlotLayout
-pub mod Chains
 pub mod Words

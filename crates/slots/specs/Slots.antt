@@ -4,7 +4,7 @@
 --   slotCount n          the slots S of a work buffer of n bytes: as many as fit, 40 bytes each, and no more than 4,096
 --   slotBytes v a p      a slot's 40 bytes for the vertex v, found by letter a from the slot p: the left state, the 32 counters,
 --                        the letter, the number of slot p, low byte in front, and four zeros
--- Shown by the contracts of `slot_count`, `is_final` and `put_slot`, and by `same-vertex-eq`. Assumes nothing.
+-- Shown by the contracts of `slot_count` and `put_slot`, and by `same-vertex-eq`. Assumes nothing.
 use mathlib.Core.Bool.{Bool, true, false, _&&_}
 use mathlib.Core.List.{List, [], _∷_, _++_}
 use Prim.Native.Nat.{ℕ, _/_, _%_, min}

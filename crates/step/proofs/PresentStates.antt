@@ -17,7 +17,6 @@ use Rattle.automaton.specs.Automata.{maxStates}
 use Rattle.automaton.specs.Ranges.{those, table, largest}
 use Rattle.automaton.proofs.Ranges.{those-has, table-at}
 use Rattle.automaton.proofs.Tests.{is-true}
-use Rattle.step.specs.declared.present.Present.{Present}
 use Rattle.step.specs.Masks.{rowPlace}
 use Rattle.step.specs.Steps.{presentStates, placesAfter, PresentOf}
 use Rattle.step.proofs.Largest.{largest-more, largest-le, largest-bound}
@@ -70,57 +69,55 @@ member-place (x ∷ l) m =
 
 -- What the list of the states present says.
 
-module _ (present : Present) (f : List ℕ) (n : ℕ) (P : PresentOf present f n) where
-  place-is : (i : ℕ) → i < present .count → getD (present .places) i 0 ≡ getD (presentStates f n) i 0
+module _ (count : ℕ) (places f : List ℕ) (n : ℕ) (P : PresentOf count places f n) where
+  place-is : (i : ℕ) → i < count → getD places i 0 ≡ getD (presentStates f n) i 0
   place-is i h =
-      sym (getD-take (present .count) (present .places) i 0 h) ∙ ap (λ (l : List ℕ). getD l i 0) (P .places-are)
+      sym (getD-take count places i 0 h) ∙ ap (λ (l : List ℕ). getD l i 0) (P .places-are)
 
-  pub present-few : present .count ≤ n
+  pub present-few : count ≤ n
   present-few = omega (arith, P .count-is, those-few (λ p. ltb 0 (getD f p 0)) n 0)
 
-  pub present-below : (i : ℕ) → i < present .count → getD (present .places) i 0 < n
+  pub present-below : (i : ℕ) → i < count → getD places i 0 < n
   present-below i h =
       omega (arith, place-is i h, those-below (λ p. ltb 0 (getD f p 0)) n 0 i (omega (arith, P .count-is)))
 
-  present-all : (p : ℕ) → p < n → 0 < getD f p 0 → (i : ℕ) × (i < present .count) × (getD (present .places) i 0 ≡ p)
+  present-all : (p : ℕ) → p < n → 0 < getD f p 0 → (i : ℕ) × (i < count) × (getD places i 0 ≡ p)
   present-all p h g =
       let t : T (ltb 0 (getD f (0 + p) 0)) = is-true _ (ap (λ (k : ℕ). ltb 0 (getD f k 0)) (zero-add p) ∙ lt-ltb 0 (getD f p 0) g) in
       let r = member-place (presentStates f n) (those-has (λ p. ltb 0 (getD f p 0)) n 0 p h t) in
-      let l : r .0 < present .count = omega (arith, r .1, P .count-is) in
+      let l : r .0 < count = omega (arith, r .1, P .count-is) in
       (r .0, l, place-is (r .0) l ∙ r .2 ∙ zero-add p)
 
   -- states that are not listed have no counter above 0
   pub largest-listed : (g : ℕ → ℕ) → ((p : ℕ) → p < n → getD f p 0 ≤ 0 → g p ≤ 0)
-      → largest (λ j. g (getD (present .places) j 0)) (present .count) 0 ≡ largest g n 0
+      → largest (λ j. g (getD places j 0)) count 0 ≡ largest g n 0
   largest-listed g none = omega (arith, most, least)
     where
-      most : largest (λ j. g (getD (present .places) j 0)) (present .count) 0 ≤ largest g n 0
-      most = largest-le (λ j. g (getD (present .places) j 0)) (present .count) (largest g n 0) (λ i h. largest-bound g n _ (present-below i h))
+      most : largest (λ j. g (getD places j 0)) count 0 ≤ largest g n 0
+      most = largest-le (λ j. g (getD places j 0)) count (largest g n 0) (λ i h. largest-bound g n _ (present-below i h))
 
-      one : (p : ℕ) → p < n → (c : Bool) → ltb 0 (getD f p 0) ≡ c → g p ≤ largest (λ j. g (getD (present .places) j 0)) (present .count) 0
+      one : (p : ℕ) → p < n → (c : Bool) → ltb 0 (getD f p 0) ≡ c → g p ≤ largest (λ j. g (getD places j 0)) count 0
       one p h true e =
           let w = present-all p h (ltb-true 0 (getD f p 0) e) in
-          subst (λ (q : ℕ). g q ≤ largest (λ j. g (getD (present .places) j 0)) (present .count) 0) (w .2)
-          (largest-bound (λ j. g (getD (present .places) j 0)) (present .count) (w .0) (w .1))
+          subst (λ (q : ℕ). g q ≤ largest (λ j. g (getD places j 0)) count 0) (w .2)
+          (largest-bound (λ j. g (getD places j 0)) count (w .0) (w .1))
       one p h false e = omega (arith, none p h (ltb-false 0 (getD f p 0) e))
 
-      least : largest g n 0 ≤ largest (λ j. g (getD (present .places) j 0)) (present .count) 0
+      least : largest g n 0 ≤ largest (λ j. g (getD places j 0)) count 0
       least = largest-le g n _ (λ p h. one p h (ltb 0 (getD f p 0)) refl)
 
 -- The states below p are listed, one after the other.
 
 pub record Listing (f : List ℕ) (count : ℕ) (places : List ℕ) (p : ℕ) : Type 0 where
   pub long : length places ≡ maxStates
-  pub count-is : count ≡ length (presentStates f p)
-  pub places-are : take count places ≡ presentStates f p
-  pub bytes : (q : ℕ) → q < p → getD f q 0 < 256
+  pub listed : PresentOf count places f p
 
 pub listing-few : (f : List ℕ) (count : ℕ) (places : List ℕ) (p : ℕ) → Listing f count places p → count ≤ p
-listing-few f count places p L = omega (arith, L .count-is, those-few (λ q. ltb 0 (getD f q 0)) p 0)
+listing-few f count places p L = present-few count places f p (L .listed)
 
 pub listing-none : (f places : List ℕ) → length places ≡ maxStates → Listing f 0 places 0
 unfolding those
-listing-none f places l = record { long = l; count-is = refl; places-are = refl; bytes = λ q h. absurd (omega arith) }
+listing-none f places l = record { long = l; listed = record { count-is = refl; places-are = refl; bytes = λ q h. absurd (omega arith) } }
 
 module _ (f : List ℕ) (count : ℕ) (places : List ℕ) (p : ℕ) (L : Listing f count places p) (room : p < maxStates) where
   states-more : presentStates f (p + 1) ≡ presentStates f p ++ cond (ltb 0 (getD f p 0)) (p ∷ []) []
@@ -133,9 +130,12 @@ module _ (f : List ℕ) (count : ℕ) (places : List ℕ) (p : ℕ) (L : Listing
   listing-next m e small =
       record {
         long = length-set places count p ∙ L .long;
-        count-is = made (ltb 0 (getD f p 0)) refl m e .0;
-        places-are = made (ltb 0 (getD f p 0)) refl m e .1;
-        bytes = below-more (λ q. getD f q 0 < 256) p (L .bytes) small;
+        listed =
+            record {
+              count-is = made (ltb 0 (getD f p 0)) refl m e .0;
+              places-are = made (ltb 0 (getD f p 0)) refl m e .1;
+              bytes = below-more (λ q. getD f q 0 < 256) p (L .listed .bytes) small;
+            };
       }
     where
       made : (c : Bool) → ltb 0 (getD f p 0) ≡ c → (m : ℕ) → m ≡ cond c (count + 1) count
@@ -143,19 +143,19 @@ module _ (f : List ℕ) (count : ℕ) (places : List ℕ) (p : ℕ) (L : Listing
       made true t m d =
           let more : presentStates f (p + 1) ≡ presentStates f p ++ p ∷ [] =
           states-more ∙ ap (λ (c : Bool). presentStates f p ++ cond c (p ∷ []) []) t in (
-            omega (arith, L .count-is, ap length more, length-append (presentStates f p) (p ∷ [])),
+            omega (arith, L .listed .count-is, ap length more, length-append (presentStates f p) (p ∷ [])),
             ap (λ (k : ℕ). take k (set places count p)) (d ∙ add-one count)
                 ∙ take-suc-set places count p (omega (arith, L .long, listing-few f count places p L))
-                ∙ ap (λ (l : List ℕ). l ++ p ∷ []) (L .places-are)
+                ∙ ap (λ (l : List ℕ). l ++ p ∷ []) (L .listed .places-are)
                 ∙ sym more,
           )
       made false t m d =
           let more : presentStates f (p + 1) ≡ presentStates f p =
           states-more ∙ ap (λ (c : Bool). presentStates f p ++ cond c (p ∷ []) []) t ∙ append-nil (presentStates f p) in (
-            d ∙ L .count-is ∙ sym (ap length more),
+            d ∙ L .listed .count-is ∙ sym (ap length more),
             ap (λ (k : ℕ). take k (set places count p)) d
                 ∙ take-set-le count places count p (omega arith)
-                ∙ L .places-are
+                ∙ L .listed .places-are
                 ∙ sym more,
           )
 
@@ -171,20 +171,20 @@ places-next f count places p e c =
 
 -- The largest counters of the predecessors, one listed state after the other.
 
--- the counter of p, or 0 by its mask for r
-abbrev pub maskedCounter : List ℕ → ℕ → List ℕ → ℕ → ℕ → ℕ
-maskedCounter m a f r p = min (getD f p 0) (getD m (rowPlace a p + r) 0)
+-- the counter of p as its mask for r shows it
+abbrev pub maskedCounter : List ℕ → ℕ → ℕ → List ℕ → ℕ → ℕ → ℕ
+maskedCounter m n a f r p = min (getD f p 0) (getD m (rowPlace n a p + r) 0)
 
 -- the state p at place i of the list raises its targets to its counter
-pub largest-raised : (m : List ℕ) (a : ℕ) (f ps : List ℕ) (i p : ℕ) (l l′ : List ℕ) → p ≡ getD ps i 0
-    → l′ ≡ table (λ r. max (getD l r 0) (maskedCounter m a f r p)) maxStates 0
-    → ((r : ℕ) → r < maxStates → getD l r 0 ≡ largest (λ j. maskedCounter m a f r (getD ps j 0)) i 0)
-    → (r : ℕ) → r < maxStates → getD l′ r 0 ≡ largest (λ j. maskedCounter m a f r (getD ps j 0)) (i + 1) 0
-largest-raised m a f ps i p l l′ e made so-far r h =
+pub largest-raised : (m : List ℕ) (n a : ℕ) (f ps : List ℕ) (i p : ℕ) (l l′ : List ℕ) → p ≡ getD ps i 0
+    → l′ ≡ table (λ r. max (getD l r 0) (maskedCounter m n a f r p)) maxStates 0
+    → ((r : ℕ) → r < maxStates → getD l r 0 ≡ largest (λ j. maskedCounter m n a f r (getD ps j 0)) i 0)
+    → (r : ℕ) → r < maxStates → getD l′ r 0 ≡ largest (λ j. maskedCounter m n a f r (getD ps j 0)) (i + 1) 0
+largest-raised m n a f ps i p l l′ e made so-far r h =
     ap (λ (z : List ℕ). getD z r 0) made
-    ∙ table-at (λ r. max (getD l r 0) (maskedCounter m a f r p)) maxStates r 0 h
-    ∙ ap₂ max (so-far r h) (ap (maskedCounter m a f r) e)
+    ∙ table-at (λ r. max (getD l r 0) (maskedCounter m n a f r p)) maxStates r 0 h
+    ∙ ap₂ max (so-far r h) (ap (maskedCounter m n a f r) e)
     ∙ sym
-    (ap (λ (k : ℕ). largest (λ j. maskedCounter m a f r (getD ps j 0)) k 0) (add-one i)
-    ∙ largest-more (λ j. maskedCounter m a f r (getD ps j 0)) i 0
-    ∙ ap (λ (k : ℕ). max (largest (λ j. maskedCounter m a f r (getD ps j 0)) i 0) (maskedCounter m a f r (getD ps k 0))) (zero-add i))
+    (ap (λ (k : ℕ). largest (λ j. maskedCounter m n a f r (getD ps j 0)) k 0) (add-one i)
+    ∙ largest-more (λ j. maskedCounter m n a f r (getD ps j 0)) i 0
+    ∙ ap (λ (k : ℕ). max (largest (λ j. maskedCounter m n a f r (getD ps j 0)) i 0) (maskedCounter m n a f r (getD ps k 0))) (zero-add i))

@@ -1,29 +1,28 @@
--- The counters as the code steps them, from the masks of the transitions, are those of the definition: the largest counter of the
--- predecessors decides both whether an accepting state is raised and what a state that does not accept gets. Assumes nothing.
-use mathlib.Core.Path.{_≡_, refl, sym, _∙_, ap, ap₂}
-use mathlib.Core.Bool.{Bool, true, false, cond, _&&_, not}
+-- The counter of a right state after a step is told by the largest counter of its predecessors: it decides both whether an accepting state is
+-- raised and what a state that does not accept gets. The masks of the transitions show that largest counter. Assumes nothing.
+use mathlib.Core.Path.{_≡_, sym, _∙_, ap}
+use mathlib.Core.Bool.{Bool, true, false, cond, _&&_}
 use mathlib.Core.Logic.{⊎-elim}
 use mathlib.Core.List.{List}
 use Prim.Native.Nat.{ℕ, _+_, _-_, _≤_, _<_, min}
 use native.Mathlib.Nat.{eq-or-lt-of-le}
 use native.Mathlib.Omega.{arith}
-use borrow.Author.Tests.{eqb-true, eqb-false}
-use lib.Dec.{eqb, ltb, lt→ltb}
-use lib.ListN.{length, getD, set, replicate, length-set, length-replicate, getD-replicate}
+use borrow.Author.Tests.{ne-eqb}
+use lib.Dec.{ltb, lt→ltb}
+use lib.ListN.{length, getD, set}
 use lib.Seq.{ext-getD, getD-set-same, getD-set-other}
 use Rattle.automaton.specs.declared.Automaton.{Automaton}
-use Rattle.automaton.specs.Automata.{maxStates, maxLetters, accepts, transition, InRange}
+use Rattle.automaton.specs.Automata.{maxStates, maxLetters, one, accepts, transition, InRange}
 use Rattle.automaton.specs.Members.{transitionIn}
 use Rattle.automaton.specs.Ranges.{some, table, largest}
 use Rattle.automaton.specs.Sets.{member}
 use Rattle.automaton.proofs.Ranges.{table-at, length-table}
 use Rattle.automaton.proofs.Tests.{same-test, and-both, both-and}
 use Rattle.automaton.proofs.Transitions.{transition-parts, parts-transition}
-use Rattle.relations.proofs.Rows.{table-same, some-same}
-use Rattle.slots.specs.declared.Vertex.{Vertex}
-use Rattle.graph.specs.LagGraph.{initialCounter, initialVertex, counter, stepped}
+use Rattle.relations.proofs.Rows.{some-same}
+use Rattle.graph.specs.LagGraph.{counter}
 use Rattle.step.specs.Masks.{mask, rowPlace, Masks}
-use Rattle.step.specs.Steps.{largestMasked, allLargest, counterFrom, allCountersFrom}
+use Rattle.step.specs.Steps.{largestMasked, counterAt}
 use Rattle.step.proofs.Largest.{largest-cut, largest-same, some-above, largest-lowered}
 
 -- Bits of an automaton in range.
@@ -56,22 +55,22 @@ table-more f l r y h done e k i =
     ⊎-elim (λ q. rw q (getD-set-same l r y 0 h ∙ e)) (λ q. getD-set-other l r k y 0 (λ d. absurd (omega arith)) ∙ done k q)
     (eq-or-lt-of-le {n = k} {m = r} (omega arith))
 
--- The masks of an automaton's transitions tell the predecessors: a counter is a byte, so a mask of 255 leaves it as it is.
+-- The masks of an automaton's transitions show its predecessors: a counter is a byte, so a mask of 255 leaves it as it is.
 
 -- no state from n on has a transition on letter a
 abbrev pub NoneFrom : List ℕ → ℕ → ℕ → Type 0
 NoneFrom t n a = (p r : ℕ) → n ≤ p → p < maxStates → r < maxStates → transitionIn t p a r ≡ false
 
 -- the largest counter of the predecessors of r on letter a, looked up in the bytes t of the transitions
-unfoldable largestInto : List ℕ → ℕ → List ℕ → ℕ → ℕ
+unfoldable pub largestInto : List ℕ → ℕ → List ℕ → ℕ → ℕ
 largestInto t a f r = largest (λ p. cond (transitionIn t p a r) (getD f p 0) 0) maxStates 0
 
-masked-into : (m t : List ℕ) (n k a : ℕ) (f : List ℕ) → n ≤ maxStates → Masks m t n k → a < k → NoneFrom t n a
+pub masked-into : (m t : List ℕ) (n k a : ℕ) (f : List ℕ) → n ≤ maxStates → Masks m t n k → a < k → NoneFrom t n a
     → ((p : ℕ) → p < n → getD f p 0 < 256) → (r : ℕ) → r < maxStates → largestMasked m n a f r ≡ largestInto t a f r
 unfolding largestInto
 masked-into m t n k a f few M h none bytes r i =
     sym
-    (largest-cut (λ p. cond (transitionIn t p a r) (getD f p 0) 0) (λ p. min (getD f p 0) (getD m (rowPlace a p + r) 0)) n maxStates few
+    (largest-cut (λ p. cond (transitionIn t p a r) (getD f p 0) 0) (λ p. min (getD f p 0) (getD m (rowPlace n a p + r) 0)) n maxStates few
     (λ p l. sym (ap (min (getD f p 0)) (M a p r h l i) ∙ shown (transitionIn t p a r) (getD f p 0) (bytes p l)))
     (λ p l j. ap (λ (c : Bool). cond c (getD f p 0) 0) (none p r l j i)))
   where
@@ -79,11 +78,15 @@ masked-into m t n k a f few M h none bytes r i =
     shown true x l = omega arith
     shown false x l = omega arith
 
--- One step.
+-- The counter after a step.
+
+-- a state that accepts has a top above 0
+counter-raised : (top visits x : ℕ) → 0 < top → counterAt top visits x ≡ cond (ltb 0 x) top 0
+counter-raised top visits x h = ap (λ (c : Bool). cond c (x - visits) (cond (ltb 0 x) top 0)) (ne-eqb top 0 (λ e. omega arith))
 
 module _ (A B : Automaton) (b : ℕ) (R : InRange B) (a t : ℕ) (f : List ℕ) (letter : a < maxLetters) where
-  counter-is : (r : ℕ) → r < maxStates
-      → counter A B b a t f r ≡ counterFrom (b + 1) (member (B .accepting) r) (accepts A t) (largestInto (B .transitions) a f r)
+  pub counter-is : (r : ℕ) → r < maxStates
+      → counter A B b a t f r ≡ counterAt (cond (member (B .accepting) r) (b + 1) 0) (one (accepts A t)) (largestInto (B .transitions) a f r)
   unfolding counter largestInto
   counter-is r h = rw (← accepts-in-range B R r h) (go (accepts B r) (accepts A t))
     where
@@ -105,52 +108,9 @@ module _ (A B : Automaton) (b : ℕ) (R : InRange B) (a t : ℕ) (f : List ℕ) 
       go : (y l : Bool)
           → cond y (cond (some (λ p. transition B p a r && ltb 0 (getD f p 0)) maxStates 0) (b + 1) 0)
           (largest (λ p. cond (transition B p a r) (cond l (getD f p 0 - 1) (getD f p 0)) 0) maxStates 0)
-          ≡ counterFrom (b + 1) y l (largest (λ p. cond (x p) (getD f p 0) 0) maxStates 0)
-      go true l = ap (λ (c : Bool). cond c (b + 1) 0) above
+          ≡ counterAt (cond y (b + 1) 0) (one l) (largest (λ p. cond (x p) (getD f p 0) 0) maxStates 0)
+      go true l =
+          ap (λ (c : Bool). cond c (b + 1) 0) above
+          ∙ sym (counter-raised (b + 1) (one l) (largest (λ p. cond (x p) (getD f p 0) 0) maxStates 0) (omega arith))
       go false true = bits (λ p. getD f p 0 - 1) ∙ largest-lowered x (λ p. getD f p 0) maxStates 0
-      go false false = bits (λ p. getD f p 0)
-
-  -- the counters that are made of the masks
-  pub stepped-is : (m : List ℕ) (n k : ℕ) → n ≤ maxStates → Masks m (B .transitions) n k → a < k → NoneFrom (B .transitions) n a
-      → ((p : ℕ) → p < n → getD f p 0 < 256) → (l : Bool) → accepts A t ≡ l
-      → allCountersFrom (B .accepting) (b + 1) l (allLargest m n a f) ≡ stepped A B b a t f
-  unfolding stepped allLargest
-  stepped-is m n k few M h none bytes l e =
-      table-same (λ r. counterFrom (b + 1) (member (B .accepting) r) l (getD (allLargest m n a f) r 0)) (counter A B b a t f) maxStates
-      (λ r i.
-      ap (counterFrom (b + 1) (member (B .accepting) r) l)
-      (table-at (largestMasked m n a f) maxStates r 0 i ∙ masked-into m (B .transitions) n k a f few M h none bytes r i)
-      ∙ ap (λ (z : Bool). counterFrom (b + 1) (member (B .accepting) r) z (largestInto (B .transitions) a f r)) (sym e)
-      ∙ sym (counter-is r i))
-
--- The initial vertex.
-
-module _ (A B : Automaton) (b : ℕ) (R : InRange A) (Q : InRange B) (x : ℕ)
-    (first : x ≡ cond (member (A .accepting) (A .initial) && not (member (B .accepting) (B .initial))) b (b + 1)) where
-  initial-counter : (k : ℕ) → k < maxStates → getD (set (replicate maxStates 0) (B .initial) x) k 0 ≡ initialCounter A B b k
-  unfolding initialCounter
-  initial-counter k h = go (eqb k (B .initial)) refl
-    where
-      tests : x ≡ cond (accepts A (A .initial) && not (accepts B (B .initial))) b (b + 1)
-      tests =
-          first
-          ∙ ap₂ (λ (y z : Bool). cond (y && not z) b (b + 1)) (sym (accepts-in-range A R (A .initial) (omega arith)))
-          (sym (accepts-in-range B Q (B .initial) (omega arith)))
-
-      go : (c : Bool) → eqb k (B .initial) ≡ c
-          → getD (set (replicate maxStates 0) (B .initial) x) k 0
-          ≡ cond c (cond (accepts A (A .initial) && not (accepts B (B .initial))) b (b + 1)) 0
-      go true e =
-          ap (λ (j : ℕ). getD (set (replicate maxStates 0) (B .initial) x) j 0) (eqb-true k (B .initial) e)
-          ∙ getD-set-same (replicate maxStates 0) (B .initial) x 0 (omega (arith, Q .initial-below, Q .few-states)) ∙ tests
-      go false e =
-          getD-set-other (replicate maxStates 0) (B .initial) k x 0 (eqb-false k (B .initial) e)
-          ∙ getD-replicate {A = ℕ} maxStates k 0 0 h
-
-  pub initial-is : _≡_ {A = Vertex} (record { left = A .initial; counters = set (replicate maxStates 0) (B .initial) x })
-      (initialVertex A B b)
-  unfolding initialVertex
-  initial-is =
-      ap (λ (cs : List ℕ). record { left = A .initial; counters = cs })
-      (table-is (initialCounter A B b) (set (replicate maxStates 0) (B .initial) x) maxStates
-      (length-set (replicate maxStates 0) (B .initial) x ∙ length-replicate {A = ℕ} maxStates 0) initial-counter)
+      go false false = bits (λ p. getD f p 0) ∙ omega arith

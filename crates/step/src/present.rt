@@ -6,7 +6,7 @@ ghost use lib.Dec.{ltb};
 ghost use Rattle.automaton.specs.Automata.{maxStates};
 ghost use Rattle.step.specs.Steps.{PresentOf, placesAfter};
 
-// The first `count` places have the states, lowest first; the places after them are room to work in.
+// The first `count` places hold the states, lowest first; the places after them are room to work in.
 pub struct Present {
     pub count: usize,
     pub places: [u8; 32],
@@ -23,7 +23,7 @@ fn counted(count: usize, counter: u8) -> usize
 // The states below `states` with a counter above 0. A state is written to the next place and stays there if it counts.
 pub fn present_of(counters: [u8; 32], states: usize) -> Present
     requires { ⌜ states ≤ maxStates ⌝ }
-    ensures listed { λ r. ⌜ PresentOf r counters states ⌝ }
+    ensures listed { λ r. ⌜ PresentOf (r .count) (r .places) counters states ⌝ }
     ensures places { λ r. ⌜ r .places ≡ placesAfter counters states ⌝ }
 {
     let mut places = [0u8; 32];

@@ -1,33 +1,28 @@
 -- The loop over the letters of a place and the loop over the places follow the definition: before each letter, and before each place,
--- what is left of the fold from the list that the work buffer represents makes the walk of the whole. Assumes nothing.
+-- what is left of the fold from the list that the work buffer shows makes the walk of the whole. Assumes nothing.
 use mathlib.Core.Path.{_≡_, sym, _∙_, ap, subst}
-use mathlib.Core.Bool.{Bool, true, false}
 use mathlib.Core.List.{List, [], _++_, map, flatMap}
 use Prim.Native.Nat.{ℕ, suc, _+_, _-_, _≤_, _<_}
 use native.Mathlib.Nat.{sub-zero}
 use native.Mathlib.Numerals.{add-one}
 use native.Mathlib.Omega.{arith}
-use lib.ListN.{length, getD}
+use lib.ListN.{length}
 use Rattle.automaton.specs.declared.Automaton.{Automaton}
-use Rattle.automaton.specs.Automata.{maxStates, maxLetters, targets}
-use Rattle.automaton.specs.Members.{transitionIn, nextFrom}
+use Rattle.automaton.specs.Automata.{targets}
 use Rattle.automaton.specs.Ranges.{table}
 use Rattle.slots.specs.declared.Vertex.{Vertex}
-use Rattle.slots.specs.Slots.{slotCount, noLetter, noParent}
+use Rattle.slots.specs.Slots.{slotCount}
 use Rattle.slots.specs.Bytes.{vertexAt}
 use Rattle.walk.specs.declared.Rules.{Rules}
-use Rattle.walk.specs.declared.Walked.{Walked}
-use Rattle.walk.specs.declared.Walked.the-variants.{Going}
-use Rattle.graph.specs.Discovery.{Node, Walk, going, ended, full, below, discover, discoverAll, successorsAt, expand, expandAll, begin}
-use Rattle.graph.specs.LagGraph.{initialVertex, successor, successors, lagGraph}
-use Rattle.graph.specs.Walks.{walkOf}
-use Rattle.step.specs.declared.Step.{Step}
-use Rattle.step.specs.Steps.{stepOn, Side, Needed}
-use Rattle.step.proofs.Steps.{step-letter, step-counters}
-use Rattle.walk.specs.Representation.{Represents, Becomes, RulesOf}
+use Rattle.graph.specs.Discovery.{Node, Walk, going, ended, full, below, discoverAll, successorsAt, expand, expandAll}
+use Rattle.graph.specs.LagGraph.{successor, successors, lagGraph}
 use Rattle.graph.proofs.Discoveries.{successors-in, expand-all-ended, expand-all-full, expand-all-past}
-use Rattle.walk.proofs.RepresentedSlots.{slot-represented, represented-none}
-use Rattle.walk.proofs.FoldLoops.{Stops, represented-going, ToGo, to-go-next, to-go-stop, to-go-end, TargetsDone, no-targets}
+use Rattle.discovery.specs.declared.Walked.{Walked}
+use Rattle.discovery.specs.declared.Walked.the-variants.{Going}
+use Rattle.discovery.specs.Representation.{Represents, Becomes}
+use Rattle.discovery.proofs.RepresentedSlots.{slot-represented}
+use Rattle.discovery.proofs.FoldLoops.{Stops, represented-going, FoldLoops, onward-next, onward-stop, onward-end}
+use Rattle.walk.specs.Rules.{RulesOf}
 
 -- The letters on which a place is expanded.
 
@@ -52,49 +47,26 @@ module _ (A B : Automaton) (b : ℕ) (v : Vertex) where
   edges-none k a h = let q : k - a ≡ 0 = omega arith in rw q
 
 -- the answer r and the work buffer are those of the successors on letter a
-abbrev pub LetterDone : Rules → List ℕ → List ℕ → Vertex → ℕ → ℕ → List ℕ → ℕ → List ℕ → Walked → Type 0
-LetterDone rules lefts masks v a p before n work r =
-    (A B : Automaton) (b : ℕ) → RulesOf rules lefts masks A B b
+abbrev pub LetterDone : Rules → List ℕ → List ℕ → List ℕ → Vertex → ℕ → ℕ → List ℕ → ℕ → List ℕ → Walked → Type 0
+LetterDone rules tops lefts masks v a p before n work r =
+    (A B : Automaton) (b : ℕ) → RulesOf rules tops lefts masks A B b
     → Becomes before n work r (λ S w. discoverAll (lagGraph A B b) (below S) p w (edgesOn A B b v a))
 
-module _ (rules : Rules) (lefts masks : List ℕ) (v : Vertex) (a p : ℕ) (work : List ℕ) (m : ℕ) where
-  -- by the step of the vertex and its targets
-  pub letter-done : (lower other : Bool) (step : Step) → step ≡ stepOn (rules .right) masks (rules .states) (rules .top) v a lower other
-      → a < rules .letters → a < maxLetters → ((q : ℕ) → q < rules .states → getD (v .counters) q 0 < 256)
-      → ((A : Automaton) → Side (rules .left) lefts A → Needed lower true A (v .left) a × Needed other false A (v .left) a)
-      → (work′ : List ℕ) (r : Walked) → TargetsDone (rules .left) lefts step p work m work′ r
-      → LetterDone rules lefts masks v a p work m work′ r
-  letter-done lower other step e within h bytes needs work′ r seen A B b R =
-      let n = needs A (R .left) in
-      let letter = step-letter (rules .right) masks (rules .states) (rules .top) v a lower other step e in
-      subst (λ (c : ℕ). Becomes work m work′ r (λ S w. discoverAll (lagGraph A B b) (below S) p w (edgesOn A B b v c))) letter
-      (seen A B b v (R .left)
-      (step-counters (rules .right) masks (rules .states) (rules .top) v a lower other step e A B b (rules .letters) (R .top-is) within h
-      (R .right) bytes (n .0) (n .1)))
-
-  -- where the left state has no target there is no successor
-  pub letter-none : v .left < maxStates → a < maxLetters → nextFrom (transitionIn lefts (v .left) a) maxStates 0 ≡ maxStates
-      → LetterDone rules lefts masks v a p work m work (Going m)
-  letter-none h l e A B b R start ns S =
-      subst (λ (es : List (ℕ × Vertex)). Represents work (Going m) start
-      (discoverAll (lagGraph A B b) (below (slotCount (length start))) p (going ns) es))
-      (sym (ap (map (successor A B b v a)) (no-targets A lefts (R .left .transitions-are) (R .left .in-range) (v .left) a h l e))) S
-
 -- Before letter a: the successors on the letters from a on, discovered, expand place p.
-abbrev pub LettersToGo : Rules → List ℕ → List ℕ → Vertex → ℕ → List ℕ → ℕ → List ℕ → ℕ → ℕ → Type 0
-LettersToGo rules lefts masks v p before n work m a =
-    (A B : Automaton) (b : ℕ) → RulesOf rules lefts masks A B b
+abbrev pub LettersToGo : Rules → List ℕ → List ℕ → List ℕ → Vertex → ℕ → List ℕ → ℕ → List ℕ → ℕ → ℕ → Type 0
+LettersToGo rules tops lefts masks v p before n work m a =
+    (A B : Automaton) (b : ℕ) → RulesOf rules tops lefts masks A B b
     → (start : List ℕ) (ns : List (Node Vertex)) → Represents before (Going n) start (going ns)
-    → ToGo A B b p work m start (edgesFromLetter A B b v (rules .letters) a)
+    → FoldLoops A B b p work m start (edgesFromLetter A B b v (rules .letters) a)
     (expand (lagGraph A B b) (below (slotCount (length start))) p (going ns))
 
-abbrev pub PlaceDone : Rules → List ℕ → List ℕ → ℕ → List ℕ → ℕ → List ℕ → Walked → Type 0
-PlaceDone rules lefts masks p before n work r =
-    (A B : Automaton) (b : ℕ) → RulesOf rules lefts masks A B b
+abbrev pub PlaceDone : Rules → List ℕ → List ℕ → List ℕ → ℕ → List ℕ → ℕ → List ℕ → Walked → Type 0
+PlaceDone rules tops lefts masks p before n work r =
+    (A B : Automaton) (b : ℕ) → RulesOf rules tops lefts masks A B b
     → Becomes before n work r (λ S. expand (lagGraph A B b) (below S) p)
 
-module _ (rules : Rules) (lefts masks : List ℕ) (v : Vertex) (p : ℕ) (before : List ℕ) (n : ℕ) where
-  pub letters-start : v ≡ vertexAt before p → p < n → LettersToGo rules lefts masks v p before n before n 0
+module _ (rules : Rules) (tops lefts masks : List ℕ) (v : Vertex) (p : ℕ) (before : List ℕ) (n : ℕ) where
+  pub letters-start : v ≡ vertexAt before p → p < n → LettersToGo rules tops lefts masks v p before n before n 0
   letters-start e h A B b R start ns S = (ns, S, ap (discoverAll (lagGraph A B b) (below (slotCount (length start))) p (going ns)) (sym edges))
     where
       count : n ≡ length ns
@@ -107,52 +79,52 @@ module _ (rules : Rules) (lefts masks : List ℕ) (v : Vertex) (p : ℕ) (before
           ∙ edges-all A B b v
           ∙ ap (λ (k : ℕ). edgesFromLetter A B b v k 0) (sym (R .letters-are))
 
-  module _ (work : List ℕ) (m a : ℕ) (O : LettersToGo rules lefts masks v p before n work m a) where
-    pub letters-end : rules .letters ≤ a → PlaceDone rules lefts masks p before n work (Going m)
+  module _ (work : List ℕ) (m a : ℕ) (O : LettersToGo rules tops lefts masks v p before n work m a) where
+    pub letters-end : rules .letters ≤ a → PlaceDone rules tops lefts masks p before n work (Going m)
     letters-end h A B b R start ns S =
-        to-go-end A B b p work m start (edgesFromLetter A B b v (rules .letters) a) _ (O A B b R start ns S)
+        onward-end A B b p work m start (edgesFromLetter A B b v (rules .letters) a) _ (O A B b R start ns S)
         (edges-none A B b v (rules .letters) a h)
 
-    module _ (h : a < rules .letters) (work′ : List ℕ) (r : Walked) (seen : LetterDone rules lefts masks v a p work m work′ r) where
-      pub letters-stop : Stops r → PlaceDone rules lefts masks p before n work′ r
+    module _ (h : a < rules .letters) (work′ : List ℕ) (r : Walked) (seen : LetterDone rules tops lefts masks v a p work m work′ r) where
+      pub letters-stop : Stops r → PlaceDone rules tops lefts masks p before n work′ r
       letters-stop k A B b R start ns S =
-          to-go-stop A B b p work m work′ r start (edgesOn A B b v a) (edgesFromLetter A B b v (rules .letters) (a + 1))
+          onward-stop A B b p work m work′ r start (edgesOn A B b v a) (edgesFromLetter A B b v (rules .letters) (a + 1))
           (edgesFromLetter A B b v (rules .letters) a) _ (O A B b R start ns S) (edges-more A B b v (rules .letters) a h) (seen A B b R) k
 
-      pub letters-next : (x : ℕ) → r ≡ Going x → LettersToGo rules lefts masks v p before n work′ x (a + 1)
+      pub letters-next : (x : ℕ) → r ≡ Going x → LettersToGo rules tops lefts masks v p before n work′ x (a + 1)
       letters-next x q A B b R start ns S =
-          to-go-next A B b p work m work′ r start (edgesOn A B b v a) (edgesFromLetter A B b v (rules .letters) (a + 1))
+          onward-next A B b p work m work′ r start (edgesOn A B b v a) (edgesFromLetter A B b v (rules .letters) (a + 1))
           (edgesFromLetter A B b v (rules .letters) a) _ (O A B b R start ns S) (edges-more A B b v (rules .letters) a h) (seen A B b R) x q
 
 -- All places.
 
 -- Before place p is expanded: the places from p on, expanded, make the walk.
-abbrev pub PlacesToGo : Rules → List ℕ → List ℕ → List ℕ → ℕ → List ℕ → ℕ → ℕ → Type 0
-PlacesToGo rules lefts masks before n work m p =
-    (A B : Automaton) (b : ℕ) → RulesOf rules lefts masks A B b
+abbrev pub PlacesToGo : Rules → List ℕ → List ℕ → List ℕ → List ℕ → ℕ → List ℕ → ℕ → ℕ → Type 0
+PlacesToGo rules tops lefts masks before n work m p =
+    (A B : Automaton) (b : ℕ) → RulesOf rules tops lefts masks A B b
     → (start : List ℕ) (ns : List (Node Vertex)) → Represents before (Going n) start (going ns)
     → (ms : List (Node Vertex)) × Represents work (Going m) start (going ms)
     × (expandAll (lagGraph A B b) (below (slotCount (length start))) (slotCount (length start) - p) p (going ms)
     ≡ expandAll (lagGraph A B b) (below (slotCount (length start))) (slotCount (length start)) 0 (going ns))
 
-abbrev pub PlacesDone : Rules → List ℕ → List ℕ → List ℕ → ℕ → List ℕ → Walked → Type 0
-PlacesDone rules lefts masks before n work r =
-    (A B : Automaton) (b : ℕ) → RulesOf rules lefts masks A B b
+abbrev pub PlacesDone : Rules → List ℕ → List ℕ → List ℕ → List ℕ → ℕ → List ℕ → Walked → Type 0
+PlacesDone rules tops lefts masks before n work r =
+    (A B : Automaton) (b : ℕ) → RulesOf rules tops lefts masks A B b
     → Becomes before n work r (λ S. expandAll (lagGraph A B b) (below S) S 0)
 
-stopped-expand-all : (A B : Automaton) (b S k p : ℕ) (work : List ℕ) (r : Walked) (start : List ℕ) (w : Walk Vertex) → Stops r
+pub stopped-expand-all : (A B : Automaton) (b S k p : ℕ) (work : List ℕ) (r : Walked) (start : List ℕ) (w : Walk Vertex) → Stops r
     → Represents work r start w
     → expandAll (lagGraph A B b) (below S) k p w ≡ w
 stopped-expand-all A B b S k p work r start (going ns) t s = absurd (subst Stops (s .answer) t)
 stopped-expand-all A B b S k p work r start (ended ns n) t s = expand-all-ended (lagGraph A B b) (below S) k p ns n
 stopped-expand-all A B b S k p work r start (full ns) t s = expand-all-full (lagGraph A B b) (below S) k p ns
 
-module _ (rules : Rules) (lefts masks before : List ℕ) (n : ℕ) where
-  pub expand-all-start : PlacesToGo rules lefts masks before n before n 0
+module _ (rules : Rules) (tops lefts masks before : List ℕ) (n : ℕ) where
+  pub expand-all-start : PlacesToGo rules tops lefts masks before n before n 0
   expand-all-start A B b R start ns S = (ns, S, rw (sub-zero (slotCount (length start))))
 
-  module _ (work : List ℕ) (m p : ℕ) (O : PlacesToGo rules lefts masks before n work m p) where
-    pub expand-all-end : m ≤ p → PlacesDone rules lefts masks before n work (Going m)
+  module _ (work : List ℕ) (m p : ℕ) (O : PlacesToGo rules tops lefts masks before n work m p) where
+    pub expand-all-end : m ≤ p → PlacesDone rules tops lefts masks before n work (Going m)
     expand-all-end h A B b R start ns S =
         let o = O A B b R start ns S in
         let k = slotCount (length start) in
@@ -160,13 +132,13 @@ module _ (rules : Rules) (lefts masks before : List ℕ) (n : ℕ) where
         subst (λ (w : Walk Vertex). Represents work (Going m) start w)
         (sym (expand-all-past (lagGraph A B b) (below k) (k - p) p (o .0) (omega arith)) ∙ o .2) (o .1)
 
-    module _ (h : p < m) (work′ : List ℕ) (r : Walked) (seen : PlaceDone rules lefts masks p work m work′ r) where
+    module _ (h : p < m) (work′ : List ℕ) (r : Walked) (seen : PlaceDone rules tops lefts masks p work m work′ r) where
       one-expand : (A B : Automaton) (b S : ℕ) (w : Walk Vertex) → p < S
           → expandAll (lagGraph A B b) (below S) (S - p) p w ≡ expandAll (lagGraph A B b) (below S) (S - (p + 1)) (p + 1)
           (expand (lagGraph A B b) (below S) p w)
       one-expand A B b S w l = let q : S - p ≡ suc (S - (p + 1)) = omega arith in rw (q, add-one)
 
-      module _ (A B : Automaton) (b : ℕ) (R : RulesOf rules lefts masks A B b) (start : List ℕ) (ns : List (Node Vertex))
+      module _ (A B : Automaton) (b : ℕ) (R : RulesOf rules tops lefts masks A B b) (start : List ℕ) (ns : List (Node Vertex))
           (S : Represents before (Going n) start (going ns)) where
         abbrev slots : ℕ
         slots = slotCount (length start)
@@ -185,7 +157,7 @@ module _ (rules : Rules) (lefts masks before : List ℕ) (n : ℕ) where
             let count : m ≡ length so-far = let q = o .1 .answer in cc in
             sym (one-expand A B b slots (going so-far) (omega arith)) ∙ o .2
 
-      pub expand-all-stop : Stops r → PlacesDone rules lefts masks before n work′ r
+      pub expand-all-stop : Stops r → PlacesDone rules tops lefts masks before n work′ r
       expand-all-stop t A B b R start ns S =
           let k = slotCount (length start) in
           let w = expand (lagGraph A B b) (below k) p (going (so-far A B b R start ns S)) in
@@ -193,37 +165,9 @@ module _ (rules : Rules) (lefts masks before : List ℕ) (n : ℕ) where
           subst (λ (x : Walk Vertex). Represents work′ r start x)
           (sym (stopped-expand-all A B b k (k - (p + 1)) (p + 1) work′ r start w t d) ∙ whole A B b R start ns S) d
 
-      pub expand-all-next : (x : ℕ) → r ≡ Going x → PlacesToGo rules lefts masks before n work′ x (p + 1)
+      pub expand-all-next : (x : ℕ) → r ≡ Going x → PlacesToGo rules tops lefts masks before n work′ x (p + 1)
       expand-all-next x e A B b R start ns S =
           let k = slotCount (length start) in
           let w = expand (lagGraph A B b) (below k) p (going (so-far A B b R start ns S)) in
           let g = represented-going work′ r x start w e (after A B b R start ns S) in
           (g .0, g .2, ap (expandAll (lagGraph A B b) (below k) (k - (p + 1)) (p + 1)) (sym (g .1)) ∙ whole A B b R start ns S)
-
--- The walk: the initial vertex, and all places.
-
-module _ (A B : Automaton) (b : ℕ) (first : Vertex) (is-initial : first ≡ initialVertex A B b) (work work′ : List ℕ) (r : Walked)
-    (seen : (A B : Automaton) (b : ℕ) → Becomes work 0 work′ r
-    (λ S w. discover (lagGraph A B b) (below S) noParent w (noLetter, first))) where
-  began : Represents work′ r work (begin (lagGraph A B b) (below (slotCount (length work))))
-  began =
-      subst (λ (v : Vertex). Represents work′ r work (discover (lagGraph A B b) (below (slotCount (length work))) noParent (going [])
-      (noLetter, v)))
-      is-initial (seen A B b work [] (represented-none work))
-
-  pub walk-stop : Stops r → Represents work′ r work (walkOf A B b (slotCount (length work)))
-  unfolding walkOf
-  walk-stop t =
-      let S = slotCount (length work) in
-      subst (λ (w : Walk Vertex). Represents work′ r work w)
-      (sym (stopped-expand-all A B b S S 0 work′ r work (begin (lagGraph A B b) (below S)) t began)) began
-
-  pub walk-on : (n : ℕ) → r ≡ Going n → (rules : Rules) (lefts masks : List ℕ) → RulesOf rules lefts masks A B b
-      → (work″ : List ℕ) (r′ : Walked) → PlacesDone rules lefts masks work′ n work″ r′
-      → Represents work″ r′ work (walkOf A B b (slotCount (length work)))
-  unfolding walkOf
-  walk-on n e rules lefts masks R work″ r′ done =
-      let S = slotCount (length work) in
-      let g = represented-going work′ r n work (begin (lagGraph A B b) (below S)) e began in
-      subst (λ (w : Walk Vertex). Represents work″ r′ work (expandAll (lagGraph A B b) (below S) S 0 w)) (sym (g .1))
-      (done A B b R work (g .0) (g .2))

@@ -1,4 +1,4 @@
--- The word of the final vertex is read in the slots: the slots have the listed nodes, whose parents have lower places, so the
+-- The word of the final vertex is read in the slots: the slots hold the listed nodes, whose parents have lower places, so the
 -- parents' letters in the slots spell the word of the definition. Assumes nothing.
 use mathlib.Core.Path.{_≡_, refl, sym, _∙_, ap, ap₂, subst}
 use mathlib.Core.Bool.{Bool, cond}
@@ -20,9 +20,10 @@ use Rattle.graph.proofs.Discoveries.{at-left, at-last, length-snoc}
 use Rattle.graph.proofs.Parents.{Linked}
 use Rattle.graph.proofs.Words.{word-step}
 use Rattle.graph.proofs.WalkTheorem.{walk-ended, list-links, list-in-range}
-use Rattle.walk.specs.declared.Walked.the-variants.{Ended}
-use Rattle.walk.specs.Representation.{Wide, Represents, finalWordIn}
-use Rattle.walk.proofs.RepresentedSlots.{slot-represented, represented-length}
+use Rattle.discovery.specs.declared.Walked.the-variants.{Ended}
+use Rattle.discovery.specs.Representation.{Wide, Represents}
+use Rattle.discovery.proofs.RepresentedSlots.{slot-represented, represented-length}
+use Rattle.walk.specs.Rules.{finalWordIn}
 
 -- What the code reads.
 

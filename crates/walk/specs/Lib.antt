@@ -1,2 +1,3 @@
 -- The contracts of the walk's code.
-pub mod Representation
+pub mod Rules
+pub mod Ready

@@ -9,13 +9,13 @@ use crate::rows::{slots_name, Row, SLOTS};
 const BUFFERS: &str = "each checker has its own; filled once for each row and not cleared between runs";
 
 /// Highest geometric mean of the ratios.
-const MEAN_GOAL: f64 = 1.0;
+const MEAN_GOAL: f64 = 0.6;
 
 /// Highest ratio of a row.
-const ROW_GOAL: f64 = 1.5;
+const ROW_GOAL: f64 = 1.0;
 
 /// Highest time for a listed vertex at 4,096 slots, as a multiple of that at 64.
-const VERTEX_GOAL: f64 = 2.0;
+const VERTEX_GOAL: f64 = 1.5;
 
 pub struct Report {
     pub machine: String,

@@ -4,6 +4,7 @@ use mathlib.Core.Path.{sym, ap, _∙_}
 use Prim.Native.Nat.{ℕ}
 use lib.ListN.{length}
 use borrow.Author.Needs.{needs}
+use Rattle.automaton.specs.Automata.{wholeOf}
 use Rattle.slots.specs.Slots.{slotCount}
 use Rattle.graph.specs.Walks.{walkOf, wordAfter}
 use Rattle.answers.specs.Contain.{differing, comparing}
@@ -27,8 +28,8 @@ final-word-requires c κs =
     let k = c .before .before .before .before .before .before .before .walk in
     let g = c .before .before .before .place .given in
     let E =
-    found-final (a .left) (a .right) (a .bound) (a .work .now) _ _ _ _ (c .before .before .before .before .before .before .before .before .before .before .before .pre .0) (k .ensures .1)
-    (ended-at (slotCount (length (a .work .now))) (walkOf (a .left) (a .right) (a .bound) (slotCount (length (a .work .now)))) (g .0 .0) (g .0 .1 .0) (g .0 .1 .1 .0) (sym (g .1) ∙ k .ensures .0)) in
+    found-final (wholeOf (a .left) (a .lefts .now)) (wholeOf (a .right) (a .rights .now)) (a .bound) (a .work .now) _ _ _ _ (c .before .before .before .before .before .before .before .before .before .before .before .pre .0) (k .ensures .1)
+    (ended-at (slotCount (length (a .work .now))) (walkOf (wholeOf (a .left) (a .lefts .now)) (wholeOf (a .right) (a .rights .now)) (a .bound) (slotCount (length (a .work .now)))) (g .0 .0) (g .0 .1 .0) (g .0 .1 .1 .0) (sym (g .1) ∙ k .ensures .0)) in
     λ h. (parent-slot _ _ _ _ E h, parents-fall _ _ _ _ E h)
 
 differing-requires : tie.Need-differing-requires
@@ -46,7 +47,7 @@ returns c =
     let a = c .before .before .before .before .before .before .before .before .before .args in
     let k = c .before .before .before .before .before .walk in
     let g = c .before .n .given in
-    let d = contained-outcome (slotCount (length (a .work .now))) (a .left) (a .right) (a .bound) _ (a .word .now) (walkOf (a .left) (a .right) (a .bound) (slotCount (length (a .work .now)))) (g .0 .0) (sym (g .1) ∙ k .ensures .0) in
+    let d = contained-outcome (slotCount (length (a .work .now))) (wholeOf (a .left) (a .lefts .now)) (wholeOf (a .right) (a .rights .now)) (a .bound) _ (a .word .now) (walkOf (wholeOf (a .left) (a .lefts .now)) (wholeOf (a .right) (a .rights .now)) (a .bound) (slotCount (length (a .work .now)))) (g .0 .0) (sym (g .1) ∙ k .ensures .0) in
     (d .0, (k .ensures .1, d .1))
 
 same-length-2 : tie.Need-same-length-2
@@ -61,15 +62,15 @@ returns-2 c =
     let a = c .before .before .before .before .before .before .before .before .before .before .before .before .before .before .before .args in
     let k = c .before .before .before .before .before .before .before .before .before .before .before .walk in
     let g = c .before .before .before .before .before .before .before .place .given in
-    let f = ended-at (slotCount (length (a .work .now))) (walkOf (a .left) (a .right) (a .bound) (slotCount (length (a .work .now)))) (g .0 .0) (g .0 .1 .0) (g .0 .1 .1 .0) (sym (g .1) ∙ k .ensures .0) in
+    let f = ended-at (slotCount (length (a .work .now))) (walkOf (wholeOf (a .left) (a .lefts .now)) (wholeOf (a .right) (a .rights .now)) (a .bound) (slotCount (length (a .work .now)))) (g .0 .0) (g .0 .1 .0) (g .0 .1 .1 .0) (sym (g .1) ∙ k .ensures .0) in
     let x = c .before .before .before .final-word in
     let r =
     final-word-is _ _ _ _
-    (found-final (a .left) (a .right) (a .bound) (a .work .now) _ _ _ _ (c .before .before .before .before .before .before .before .before .before .before .before .before .before .before .before .pre .0) (k .ensures .1) f) in (
+    (found-final (wholeOf (a .left) (a .lefts .now)) (wholeOf (a .right) (a .rights .now)) (a .bound) (a .work .now) _ _ _ _ (c .before .before .before .before .before .before .before .before .before .before .before .before .before .before .before .pre .0) (k .ensures .1) f) in (
       c .differing .ensures
           ∙ (ap (λ (m : ℕ). differing m (g .0 .0) (x .result)) (x .kept .1 .1 .1 .1 .0)
-          ∙ ended-outcome (a .left) (a .right) (a .bound) (slotCount (length (a .work .now))) (length (a .word .now)) (x .result) (walkOf (a .left) (a .right) (a .bound) (slotCount (length (a .work .now)))) f (x .ensures .0 ∙ ap length r)),
-      (k .ensures .1, ended-word (a .left) (a .right) (a .bound) (slotCount (length (a .work .now))) (a .word .now) _ (walkOf (a .left) (a .right) (a .bound) (slotCount (length (a .work .now)))) f (x .ensures .1 ∙ ap (wordAfter (a .word .now)) r)),
+          ∙ ended-outcome (wholeOf (a .left) (a .lefts .now)) (wholeOf (a .right) (a .rights .now)) (a .bound) (slotCount (length (a .work .now))) (length (a .word .now)) (x .result) (walkOf (wholeOf (a .left) (a .lefts .now)) (wholeOf (a .right) (a .rights .now)) (a .bound) (slotCount (length (a .work .now)))) f (x .ensures .0 ∙ ap length r)),
+      (k .ensures .1, ended-word (wholeOf (a .left) (a .lefts .now)) (wholeOf (a .right) (a .rights .now)) (a .bound) (slotCount (length (a .work .now))) (a .word .now) _ (walkOf (wholeOf (a .left) (a .lefts .now)) (wholeOf (a .right) (a .rights .now)) (a .bound) (slotCount (length (a .work .now)))) f (x .ensures .1 ∙ ap (wordAfter (a .word .now)) r)),
     )
 
 same-length-4 : tie.Need-same-length-4
@@ -81,7 +82,7 @@ returns-3 c =
     let a = c .before .before .before .before .before .before .before .before .before .args in
     let k = c .before .before .before .before .before .walk in
     let g = c .before .n2 .given in
-    let d = full-outcome (slotCount (length (a .work .now))) (a .left) (a .right) (a .bound) _ (a .word .now) (walkOf (a .left) (a .right) (a .bound) (slotCount (length (a .work .now)))) (g .0 .0) (sym (g .1) ∙ k .ensures .0) in
+    let d = full-outcome (slotCount (length (a .work .now))) (wholeOf (a .left) (a .lefts .now)) (wholeOf (a .right) (a .rights .now)) (a .bound) _ (a .word .now) (walkOf (wholeOf (a .left) (a .lefts .now)) (wholeOf (a .right) (a .rights .now)) (a .bound) (slotCount (length (a .work .now)))) (g .0 .0) (sym (g .1) ∙ k .ensures .0) in
     (d .0, (k .ensures .1, d .1))
 
 pub compare-spec : {M : Type 1} → statement M

@@ -1,34 +1,34 @@
--- `step::counters_after` meets its contract. The counters written so far are those of the table. Assumes nothing.
+-- `step::counters_after` meets its contract. The loop's invariant: the counters written so far are those of the table. Assumes nothing.
 use mathlib.Core.Path.{_≡_, _∙_}
 use Prim.Native.Nat.{ℕ, _-_, _≤_, _<_}
 use native.Mathlib.Omega.{arith}
 use borrow.Author.Count.{below-none}
 use borrow.Author.Needs.{needs}
 use lib.ListN.{length, getD, length-set}
-use Rattle.automaton.specs.Sets.{member}
-use Rattle.step.specs.Steps.{counterFrom}
+use Rattle.automaton.specs.Automata.{maxStates}
+use Rattle.step.specs.Steps.{counterAt, countersFrom}
 use Rattle.step.proofs.SteppedBytes.{table-is, table-more}
 use Rattle.step.proofs.counters_after.Statement.{statement}
 use Rattle.step.proofs.counters_after.Tie as tie
 
 abbrev Inv-loop : tie.InvT-loop
-Inv-loop accepting top left-accepts largest after₀ r₀ after r = (r ≤ 32) × (length after ≡ 32)
-    × ((k : ℕ) → k < r → getD after k 0 ≡ counterFrom top (member accepting k) left-accepts (getD largest k 0))
+Inv-loop tops visits largest after₀ r₀ after r = (r ≤ maxStates) × (length after ≡ maxStates)
+    × ((k : ℕ) → k < r → getD after k 0 ≡ counterAt (getD tops k 0) visits (getD largest k 0))
 
 abbrev μ-loop : tie.MeasureT-loop
-μ-loop accepting top left-accepts largest after₀ r₀ after r = 32 - r
+μ-loop tops visits largest after₀ r₀ after r = maxStates - r
 
 loop-holds : tie.Need-loop-holds Inv-loop μ-loop
 loop-holds c = (search needs, search needs, below-none _)
 
-accepts-in-requires : tie.Need-accepts-in-requires Inv-loop μ-loop
-accepts-in-requires c κs = search needs
+element-copy-out-counter-at : tie.Need-element-copy-out-counter-at Inv-loop μ-loop
+element-copy-out-counter-at c = search needs
 
-array-read-counter-after : tie.Need-array-read-counter-after Inv-loop μ-loop
-array-read-counter-after c = search needs
+array-read-counter-at : tie.Need-array-read-counter-at Inv-loop μ-loop
+array-read-counter-at c = search needs
 
-counter-after-requires : tie.Need-counter-after-requires Inv-loop μ-loop
-counter-after-requires c κs = search needs
+counter-at-requires : tie.Need-counter-at-requires Inv-loop μ-loop
+counter-at-requires c κs = search needs
 
 array-write-after : tie.Need-array-write-after Inv-loop μ-loop
 array-write-after c = search needs
@@ -42,19 +42,19 @@ loop-less c = search needs
 loop-again : tie.Need-loop-again Inv-loop μ-loop
 loop-again c =
     let l = c .before .before .before .loop in
-    let a = c .before .before .before .before .args in
-    let y = c .before .accepts-in .ensures in (
+    let a = c .before .before .before .before .args in (
       search needs,
       length-set (l .after) _ _ ∙ l .inv .1,
-      table-more (λ k. counterFrom (a .top) (member (a .accepting .now) k) (a .left-accepts) (getD (a .t4) k 0)) (l .after) (l .r) _
-          (omega arith) (l .inv .2) (rw (← y) (c .counter-after .ensures)),
+      table-more (λ k. counterAt (getD (a .tops .now) k 0) (a .visits) (getD (a .t3) k 0)) (l .after) (l .r) _
+          (omega arith) (l .inv .2) (c .counter-at .ensures),
     )
 
 returns : tie.Need-returns Inv-loop μ-loop
+unfolding countersFrom
 returns c =
     let l = c .before .loop in
     let a = c .before .before .args in
-    table-is (λ k. counterFrom (a .top) (member (a .accepting .now) k) (a .left-accepts) (getD (a .t4) k 0)) (l .after) 32 (l .inv .1)
+    table-is (λ k. counterAt (getD (a .tops .now) k 0) (a .visits) (getD (a .t3) k 0)) (l .after) maxStates (l .inv .1)
     (λ k h. l .inv .2 k (omega arith))
 
 pub counters-after-spec : {M : Type 1} → statement M
@@ -64,9 +64,9 @@ counters-after-spec =
     Inv-loop
     μ-loop
     loop-holds
-    accepts-in-requires
-    array-read-counter-after
-    counter-after-requires
+    element-copy-out-counter-at
+    array-read-counter-at
+    counter-at-requires
     array-write-after
     add-r
     loop-less

@@ -2,8 +2,9 @@
 use mathlib.Core.Path.{_∙_, ap₂}
 use mathlib.Core.Bool.{Bool, cond, _&&_, not}
 use Prim.Native.Nat.{_+_}
+use native.Mathlib.Omega.{arith}
 use borrow.Author.Needs.{needs}
-use Rattle.step.proofs.SteppedBytes.{initial-is}
+use Rattle.step.proofs.Steps.{initial-made}
 use Rattle.step.proofs.initial_vertex.Statement.{statement}
 use Rattle.step.proofs.initial_vertex.Tie as tie
 
@@ -19,16 +20,17 @@ first-counter-requires c κs = search needs
 array-write-counters : tie.Need-array-write-counters
 array-write-counters c = search needs
 
-cast-t13 : tie.Need-cast-t13
-cast-t13 c = search needs
+cast-t9 : tie.Need-cast-t9
+cast-t9 c = search needs
 
 returns : tie.Need-returns
 returns c =
-    let s = c .before .before .before .before .before .before .before in
+    let s = c .before .before .before in
     let a = s .args in
-    let e = ap₂ (λ (y z : Bool). cond (y && not z) (a .bound) (a .bound + 1)) (c .before .before .before .accepts-in .ensures)
+    let e = ap₂ (λ (y z : Bool). cond (y && not z) (a .bound) (a .bound + 1)) (c .before .before .accepts-in .ensures)
     (c .before .accepts-in2 .ensures) in
-    initial-is (a .left) (a .right) (a .bound) (s .pre .0) (s .pre .1) (c .first-counter .result) (c .first-counter .ensures ∙ e)
+    initial-made (a .left-initial) (a .left-accepting .now) (a .right-initial) (a .right-accepting .now) (a .bound) (c .first-counter .result)
+    (omega arith) (c .first-counter .ensures ∙ e)
 
 pub initial-vertex-spec : {M : Type 1} → statement M
 initial-vertex-spec =
@@ -38,5 +40,5 @@ initial-vertex-spec =
     accepts-in-requires-2
     first-counter-requires
     array-write-counters
-    cast-t13
+    cast-t9
     returns)

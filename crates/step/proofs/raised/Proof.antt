@@ -6,17 +6,18 @@ use borrow.Author.Count.{below-none}
 use borrow.Author.Needs.{needs}
 use lib.ListN.{length, getD, length-set}
 use lib.Seq.{getD-set-other}
+use Rattle.automaton.specs.Automata.{maxStates}
 use Rattle.step.proofs.SteppedBytes.{table-is, table-more}
 use Rattle.step.proofs.raised.Statement.{statement}
 use Rattle.step.proofs.raised.Tie as tie
 
 abbrev Inv-loop : tie.InvT-loop
-Inv-loop masks at counter after₀ r₀ after r = (r ≤ 32) × (length after ≡ 32)
+Inv-loop masks at counter after₀ r₀ after r = (r ≤ maxStates) × (length after ≡ maxStates)
     × ((k : ℕ) → k < r → getD after k 0 ≡ max (getD after₀ k 0) (min counter (getD masks (at + k) 0)))
     × ((k : ℕ) → r ≤ k → getD after k 0 ≡ getD after₀ k 0)
 
 abbrev μ-loop : tie.MeasureT-loop
-μ-loop masks at counter after₀ r₀ after r = 32 - r
+μ-loop masks at counter after₀ r₀ after r = maxStates - r
 
 loop-holds : tie.Need-loop-holds Inv-loop μ-loop
 loop-holds c = (search needs, search needs, below-none _, λ k h. refl)
@@ -24,14 +25,14 @@ loop-holds c = (search needs, search needs, below-none _, λ k h. refl)
 array-read-larger : tie.Need-array-read-larger Inv-loop μ-loop
 array-read-larger c = search needs
 
-add-masked : tie.Need-add-masked Inv-loop μ-loop
-add-masked c = search needs
+add-smaller : tie.Need-add-smaller Inv-loop μ-loop
+add-smaller c = search needs
 
-element-copy-out-masked : tie.Need-element-copy-out-masked Inv-loop μ-loop
-element-copy-out-masked c = search needs
+shared-slice-read-smaller : tie.Need-shared-slice-read-smaller Inv-loop μ-loop
+shared-slice-read-smaller c = search needs
 
-masked-requires : tie.Need-masked-requires Inv-loop μ-loop
-masked-requires c κs = search needs
+smaller-requires : tie.Need-smaller-requires Inv-loop μ-loop
+smaller-requires c κs = search needs
 
 larger-requires : tie.Need-larger-requires Inv-loop μ-loop
 larger-requires c κs = search needs
@@ -48,8 +49,8 @@ loop-less c = search needs
 loop-again : tie.Need-loop-again Inv-loop μ-loop
 loop-again c =
     let l = c .before .before .before .before .loop in
-    let a = c .before .before .before .before .before .args in
-    let m = c .before .masked .ensures in (
+    let a = c .before .before .before .before .before .before .args in
+    let m = c .before .smaller .ensures in (
       search needs,
       length-set (l .after) _ _ ∙ l .inv .1,
       table-more (λ k. max (getD (a .largest) k 0) (min (a .counter) (getD (a .masks .now) (a .at + k) 0))) (l .after) (l .r) _
@@ -60,8 +61,8 @@ loop-again c =
 returns : tie.Need-returns Inv-loop μ-loop
 returns c =
     let l = c .before .loop in
-    let a = c .before .before .args in
-    table-is (λ k. max (getD (a .largest) k 0) (min (a .counter) (getD (a .masks .now) (a .at + k) 0))) (l .after) 32 (l .inv .1)
+    let a = c .before .before .before .args in
+    table-is (λ k. max (getD (a .largest) k 0) (min (a .counter) (getD (a .masks .now) (a .at + k) 0))) (l .after) maxStates (l .inv .1)
     (λ k h. l .inv .2 k (omega arith))
 
 pub raised-spec : {M : Type 1} → statement M
@@ -72,9 +73,9 @@ raised-spec =
     μ-loop
     loop-holds
     array-read-larger
-    add-masked
-    element-copy-out-masked
-    masked-requires
+    add-smaller
+    shared-slice-read-smaller
+    smaller-requires
     larger-requires
     array-write-after
     add-r

@@ -1,16 +1,17 @@
 -- `step::masks::fill` meets its contract. The loop's invariant: the masks of the letters below a are written. Assumes nothing.
 use mathlib.Core.Path.{_≡_, refl, _∙_, ap}
-use Prim.Native.Nat.{ℕ, _-_, _≤_}
+use Prim.Native.Nat.{ℕ, _*_, _-_, _≤_}
 use native.Mathlib.Omega.{arith}
 use borrow.Author.Needs.{needs}
 use lib.ListN.{length}
+use Rattle.automaton.specs.Automata.{maxStates}
 use Rattle.step.specs.Masks.{masksAfter}
-use Rattle.step.proofs.MaskRows.{letters-next}
+use Rattle.step.proofs.MaskRows.{letter-ends, letters-next}
 use Rattle.step.proofs.masks.fill.Statement.{statement}
 use Rattle.step.proofs.masks.fill.Tie as tie
 
 abbrev Inv-loop : tie.InvT-loop
-Inv-loop masks₀ transitions states letters a₀ masks a = (a ≤ letters) × (length masks ≡ length masks₀) × (16384 ≤ length masks₀)
+Inv-loop masks₀ transitions states letters a₀ masks a = (a ≤ letters) × (length masks ≡ length masks₀) × (letters * states * maxStates ≤ length masks₀)
     × (masks ≡ masksAfter transitions states a masks₀)
 
 abbrev μ-loop : tie.MeasureT-loop
@@ -21,7 +22,10 @@ unfolding masksAfter
 loop-holds c = (search needs, refl, search needs, refl)
 
 fill-letter-requires : tie.Need-fill-letter-requires Inv-loop μ-loop
-fill-letter-requires c κs = (search needs, search needs, omega (arith, c .before .before .loop .inv .1))
+fill-letter-requires c κs =
+    let l = c .before .before .loop in
+    let a = c .before .before .before .before .args in
+    (search needs, search needs, omega (arith, l .inv .1, letter-ends (a .states) (l .a) (a .letters) (omega arith)))
 
 add-a : tie.Need-add-a Inv-loop μ-loop
 add-a c = search needs

@@ -4,20 +4,20 @@ use Prim.Native.Nat.{ℕ, _-_, _≤_}
 use native.Mathlib.Omega.{arith}
 use borrow.Author.Needs.{needs}
 use lib.ListN.{length}
-use Rattle.step.specs.Masks.{letterMasks}
-use Rattle.step.proofs.MaskRows.{rows-none, rows-next}
+use Rattle.step.specs.Masks.{rowPlace}
+use Rattle.step.proofs.MaskRows.{firstRows, rows-none, rows-next}
 use Rattle.step.proofs.masks.fill_letter.Statement.{statement}
 use Rattle.step.proofs.masks.fill_letter.Tie as tie
 
 abbrev Inv-loop : tie.InvT-loop
-Inv-loop masks₀ transitions states letter p₀ masks p = (p ≤ states) × (16384 ≤ length masks₀) × (length masks ≡ length masks₀)
-    × (masks ≡ letterMasks transitions p letter masks₀)
+Inv-loop masks₀ transitions states letter p₀ masks p = (p ≤ states) × (rowPlace states letter states ≤ length masks₀) × (length masks ≡ length masks₀)
+    × (masks ≡ firstRows transitions states p letter masks₀)
 
 abbrev μ-loop : tie.MeasureT-loop
 μ-loop masks₀ transitions states letter p₀ masks p = states - p
 
 loop-holds : tie.Need-loop-holds Inv-loop μ-loop
-loop-holds c = let a = c .before .args in (search needs, search needs, refl, rows-none (a .transitions .now) (a .letter) (a .masks .now))
+loop-holds c = let a = c .before .args in (search needs, search needs, refl, rows-none (a .transitions .now) (a .states) (a .letter) (a .masks .now))
 
 fill-row-requires : tie.Need-fill-row-requires Inv-loop μ-loop
 fill-row-requires c κs = (search needs, search needs, omega (arith, c .before .before .loop .inv .2))
@@ -36,7 +36,7 @@ loop-again c =
       search needs,
       l .inv .1,
       w .kept .0 ∙ l .inv .2,
-      rows-next (a .transitions .now) (a .letter) (l .p) (a .masks .now) (l .masks) (w .last .0) (omega arith) (l .inv .3) (w .ensures),
+      rows-next (a .transitions .now) (a .states) (a .letter) (l .p) (a .masks .now) (l .masks) (w .last .0) (omega arith) (l .inv .3) (w .ensures),
     )
 
 same-length : tie.Need-same-length Inv-loop μ-loop
@@ -47,7 +47,7 @@ returns c =
     let l = c .before .loop in
     let a = c .before .before .before .args in
     let e : l .p ≡ a .states = omega arith in
-    l .inv .3 ∙ ap (λ (n : ℕ). letterMasks (a .transitions .now) n (a .letter) (a .masks .now)) e
+    l .inv .3 ∙ ap (λ (n : ℕ). firstRows (a .transitions .now) (a .states) n (a .letter) (a .masks .now)) e
 
 pub fill-letter-spec : {M : Type 1} → statement M
 fill-letter-spec =

@@ -5,6 +5,7 @@ use Prim.Native.Nat.{ℕ, _+_, _-_, _≤_}
 use native.Mathlib.Omega.{arith}
 use borrow.Author.Needs.{needs}
 use lib.ListN.{length, set, length-set}
+use Rattle.automaton.specs.Automata.{maxStates}
 use Rattle.automaton.specs.Members.{transitionIn}
 use Rattle.relations.specs.Rows.{changedRows}
 use Rattle.relations.proofs.Rows.{changed-none, changed-more}
@@ -13,11 +14,11 @@ use Rattle.step.proofs.masks.fill_row.Statement.{statement}
 use Rattle.step.proofs.masks.fill_row.Tie as tie
 
 abbrev Inv-loop : tie.InvT-loop
-Inv-loop masks₀ transitions p letter at r₀ masks r = (r ≤ 32) × (at ≡ rowPlace letter p) × (at + 32 ≤ length masks₀)
+Inv-loop masks₀ transitions states p letter at r₀ masks r = (r ≤ maxStates) × (at ≡ rowPlace states letter p) × (at + maxStates ≤ length masks₀)
     × (length masks ≡ length masks₀) × (masks ≡ changedRows at r (λ k. mask (transitionIn transitions p letter k)) masks₀)
 
 abbrev μ-loop : tie.MeasureT-loop
-μ-loop masks₀ transitions p letter at r₀ masks r = 32 - r
+μ-loop masks₀ transitions states p letter at r₀ masks r = maxStates - r
 
 mul-at : tie.Need-mul-at Inv-loop μ-loop
 mul-at c = search needs
@@ -58,9 +59,9 @@ loop-again c =
       search needs,
       refl,
       l .inv .2,
-      length-set (l .masks) (rowPlace (a .letter) (a .p) + l .r) w ∙ l .inv .3,
-      ap (λ (m : List ℕ). set m (rowPlace (a .letter) (a .p) + l .r) w) (l .inv .4)
-          ∙ changed-more (rowPlace (a .letter) (a .p)) (l .r) (λ k. mask (transitionIn (a .transitions .now) (a .p) (a .letter) k)) (a .masks .now) w
+      length-set (l .masks) (rowPlace (a .states) (a .letter) (a .p) + l .r) w ∙ l .inv .3,
+      ap (λ (m : List ℕ). set m (rowPlace (a .states) (a .letter) (a .p) + l .r) w) (l .inv .4)
+          ∙ changed-more (rowPlace (a .states) (a .letter) (a .p)) (l .r) (λ k. mask (transitionIn (a .transitions .now) (a .p) (a .letter) k)) (a .masks .now) w
           (omega arith) (c .mask .ensures ∙ ap mask y),
     )
 
@@ -71,9 +72,9 @@ returns : tie.Need-returns Inv-loop μ-loop
 returns c =
     let l = c .before .loop in
     let a = c .before .before .before .args in
-    let e : l .r ≡ 32 = omega arith in
+    let e : l .r ≡ maxStates = omega arith in
     l .inv .4
-    ∙ ap (λ (n : ℕ). changedRows (rowPlace (a .letter) (a .p)) n (λ k. mask (transitionIn (a .transitions .now) (a .p) (a .letter) k)) (a .masks .now)) e
+    ∙ ap (λ (n : ℕ). changedRows (rowPlace (a .states) (a .letter) (a .p)) n (λ k. mask (transitionIn (a .transitions .now) (a .p) (a .letter) k)) (a .masks .now)) e
 
 pub fill-row-spec : {M : Type 1} → statement M
 fill-row-spec =

@@ -4,13 +4,14 @@ use mathlib.Core.Path.{_≡_, subst}
 use Prim.Native.Nat.{ℕ, _-_, _≤_}
 use native.Mathlib.Omega.{arith}
 use borrow.Author.Needs.{needs}
+use Rattle.automaton.specs.Automata.{maxStates}
 use Rattle.step.specs.Steps.{placesAfter}
 use Rattle.step.proofs.PresentStates.{Listing, listing-few, listing-none, listing-next, places-none, places-next}
 use Rattle.step.proofs.present.present_of.Statement.{statement}
 use Rattle.step.proofs.present.present_of.Tie as tie
 
 abbrev Inv-loop : tie.InvT-loop
-Inv-loop states counters places₀ count₀ p₀ places count p = (p ≤ states) × (states ≤ 32) × (count ≤ p) × Listing counters count places p × (places ≡ placesAfter counters p)
+Inv-loop states counters places₀ count₀ p₀ places count p = (p ≤ states) × (states ≤ maxStates) × (count ≤ p) × Listing counters count places p × (places ≡ placesAfter counters p)
 
 abbrev μ-loop : tie.MeasureT-loop
 μ-loop states counters places₀ count₀ p₀ places count p = states - p
@@ -40,15 +41,14 @@ loop-again : tie.Need-loop-again Inv-loop μ-loop
 loop-again c =
     let l = c .before .before .loop in
     let L = listing-next _ _ _ (l .p) (l .inv .3) (omega arith) _ (c .counted .ensures .0) (c .counted .ensures .1) in
-    (search needs, l .inv .1, listing-few _ _ _ _ L, L, places-next _ _ _ (l .p) (l .inv .4) (l .inv .3 .count-is))
+    (search needs, l .inv .1, listing-few _ _ _ _ L, L, places-next _ _ _ (l .p) (l .inv .4) (l .inv .3 .listed .count-is))
 
 returns : tie.Need-returns Inv-loop μ-loop
 returns c =
     let l = c .before .loop in
     let a = c .before .before .args in
     let e : l .p ≡ a .states = omega arith in
-    let L = subst (Listing (a .t1) (l .count) (l .places)) e (l .inv .3) in
-    (record { count-is = L .count-is; places-are = L .places-are; bytes = L .bytes }, subst (λ (k : ℕ). l .places ≡ placesAfter (a .t1) k) e (l .inv .4))
+    (subst (Listing (a .t1) (l .count) (l .places)) e (l .inv .3) .listed, subst (λ (k : ℕ). l .places ≡ placesAfter (a .t1) k) e (l .inv .4))
 
 pub present-of-spec : {M : Type 1} → statement M
 present-of-spec =

@@ -1,0 +1,2 @@
+-- Classes of equal counters, and the index of the slots by them.
+pub mod Classes

@@ -1,0 +1,2 @@
+-- How the code's state stands for a walk.
+pub mod Representation

@@ -1,0 +1,2 @@
+-- Laws of steps that are kept.
+pub mod KeptSteps

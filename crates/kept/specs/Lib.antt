@@ -1,0 +1,2 @@
+-- Steps that are kept.
+pub mod Kept

@@ -1,0 +1,24 @@
+-- What the code holds of the two automata of a walk, for its contracts.
+--   RulesOf        the rules, the tops, the left transitions and the masks are those of the automata A and B at the bound b
+--   finalWordIn    the word of a final vertex at a place, read in the slots: the parent's word, and the letter by which it was found
+-- Shown by `final-word-is`: after a walk that ended, the word read in the slots is the walk's. Assumes nothing.
+use mathlib.Core.Path.{_≡_}
+use mathlib.Core.List.{List, [], _∷_, _++_}
+use Prim.Native.Nat.{ℕ, zero, suc, _<_}
+use Rattle.automaton.specs.declared.Automaton.{Automaton}
+use Rattle.automaton.specs.Automata.{maxStates, accepts, InRange}
+use Rattle.automaton.specs.Sets.{bit}
+use Rattle.slots.specs.Bytes.{wordAt}
+use Rattle.step.specs.Steps.{RightSide}
+use Rattle.walk.specs.declared.Rules.{Rules}
+
+pub record RulesOf (rules : Rules) (tops lefts masks : List ℕ) (A B : Automaton) (b : ℕ) : Type 0 where
+  pub letters-are : rules .letters ≡ A .letters
+  pub accepting-is : (q : ℕ) → q < maxStates → bit (rules .accepting) q ≡ accepts A q
+  pub lefts-are : lefts ≡ A .transitions
+  pub in-range : InRange A
+  pub right : RightSide tops masks (rules .states) (rules .letters) b B
+
+unfoldable pub finalWordIn : List ℕ → ℕ → ℕ → ℕ → List ℕ
+finalWordIn work zero letter parent = []
+finalWordIn work (suc place) letter parent = wordAt work parent ++ letter ∷ []
