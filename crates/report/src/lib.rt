@@ -1,8 +1,9 @@
 // The line that the listing prints, written into a lent buffer.
 ghost use mathlib.Core.Path.{_≡_};
 ghost use mathlib.Core.List.{[], _++_};
-ghost use Prim.Native.Nat.{_+_, _*_};
+ghost use Prim.Native.Nat.{_+_, _*_, _≤_};
 ghost use lib.Dec.{leb};
+ghost use lib.ListN.{length};
 ghost use Rattle.report.specs.Line.{newline, usageText, longText, offerLine, refusedLine, lineRoom, Lined};
 
 mod answer_lines;
@@ -58,22 +59,27 @@ pub fn refused_line(n: usize, line: &mut [u8]) -> usize
     0
 }
 
+// Writes a short text as a line, as offer_line does.
+fn fixed_line(text: &[u8], line: &mut [u8]) -> usize
+    requires { ⌜ length (now text) ≤ 256 ⌝ }
+    ensures { λ r. ⌜ Lined (lineRoom []) (now (text .entry)) (now (line .entry)) (now (line .exit)) r ⌝ }
+{
+    if has_room(line.len(), 0) {
+        return put_text(line, 0, text);
+    }
+    0
+}
+
 // Writes the line of an input of another length than one byte, as offer_line does.
 pub fn usage_line(line: &mut [u8]) -> usize
     ensures { λ r. ⌜ Lined (lineRoom []) (usageText ++ newline) (now (line .entry)) (now (line .exit)) r ⌝ }
 {
-    if has_room(line.len(), 0) {
-        return put_text(line, 0, b"usage\n");
-    }
-    0
+    fixed_line(b"usage\n", line)
 }
 
 // Writes the line of a file that is too long, as offer_line does.
 pub fn long_line(line: &mut [u8]) -> usize
     ensures { λ r. ⌜ Lined (lineRoom []) (longText ++ newline) (now (line .entry)) (now (line .exit)) r ⌝ }
 {
-    if has_room(line.len(), 0) {
-        return put_text(line, 0, b"long\n");
-    }
-    0
+    fixed_line(b"long\n", line)
 }
