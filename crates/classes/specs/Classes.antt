@@ -55,7 +55,7 @@ eightFrom cs i =
     (getD cs (i + 3) 0 * 2 ^ 24 % 2 ^ 64)) (getD cs (i + 4) 0 * 2 ^ 32 % 2 ^ 64)) (getD cs (i + 5) 0 * 2 ^ 40 % 2 ^ 64))
     (getD cs (i + 6) 0 * 2 ^ 48 % 2 ^ 64)) (getD cs (i + 7) 0 * 2 ^ 56 % 2 ^ 64)
 
--- the key of four numbers of 64 bits: folded to 64 bits and to 32, and multiplied. The 12 bits in the middle of the product depend on all of them
+-- the key of four numbers of 64 bits: folded to 64 bits and to 32, and multiplied. The 12 bits in the middle of the product depend on each of the four
 unfoldable pub keyFrom : ℕ → ℕ → ℕ → ℕ → ℕ
 keyFrom w0 w1 w2 w3 =
     let a = bitXor w0 (w1 * 2 ^ 4 % 2 ^ 64) in

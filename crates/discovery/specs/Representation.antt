@@ -10,7 +10,7 @@
 --   ClassKnown class sure c    what is known of the class c: it is `class` where that is not 0, or where it is sure
 --   sideOf                     the counters at a left target t: those of the one side where t accepts, and else those of the other
 --   SideReady, SidesReady      keys and classes of both sides, and that the target, or each of the targets, is not listed
--- Assumes nothing.
+-- Shown by `listed-represented` and `listed-left-out`. Assumes nothing.
 use mathlib.Core.Path.{_≡_}
 use mathlib.Core.Bool.{Bool, true, false, cond}
 use mathlib.Core.List.{List, [], _∷_}

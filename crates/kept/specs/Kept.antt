@@ -6,7 +6,7 @@
 --   KeptStep                 what the two places from `at` on may say of the step on letter a from the counters f: a class that is not 0 is the
 --                            class of the counters after the step, among the first n slots
 --   Kept                     the same of each line and letter: the line's owner is a class, and f are its counters
--- Assumes nothing.
+-- Shown by `kept-line`, `kept-step` and `kept-grows`. Assumes nothing.
 use mathlib.Core.Path.{_≡_}
 use mathlib.Core.Bool.{cond}
 use mathlib.Core.List.{List}

@@ -1,7 +1,7 @@
 -- What the next step or the next place needs.
 --   TargetsLeft    x has the targets of both sides, w and v, without those that are listed with the classes c and d
 --   ReadyNext      where the list goes on: the slots, their index, and the steps that are kept
--- Assumes nothing.
+-- Only contracts between functions name these; the contract of `walk` settles them. Assumes nothing.
 use mathlib.Core.Path.{_≡_}
 use mathlib.Core.Bool.{_&&_, _||_, not}
 use mathlib.Core.List.{List}
