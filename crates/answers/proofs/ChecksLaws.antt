@@ -8,7 +8,7 @@ use Prim.Native.Nat.{ℕ, zero, suc, _+_, _≤_}
 use native.Mathlib.Nat.{add-zero, zero-add, add-suc, suc-add, le-of-suc-le-suc, not-suc-le-zero}
 use lib.Dec.{T}
 use lib.ListN.{take}
-use Rattle.automaton.proofs.Tests.{is-true}
+use Rattle.automaton.proofs.Booleans.{is-true}
 use Rattle.automaton.specs.declared.Automaton.{Automaton}
 use Rattle.format.specs.File.{Read, refused, holds}
 use Rattle.answers.specs.Checks.{Row, First, None, At, onRead}

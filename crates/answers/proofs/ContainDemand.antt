@@ -25,7 +25,7 @@ use Rattle.answers.specs.declared.Outcome.the-variants.{Compared}
 use Rattle.answers.specs.declared.Comparison.the-variants.{Differs, NoRoom}
 use Rattle.answers.specs.Contain.{Contain, compareWith, comparing, afterWalk, refusing, deciding, containing, outcomeOf, workOf, wordBuffer}
 use Rattle.answers.specs.Table.{Both}
-use Rattle.answers.specs.Demand1.{written, FrontSlots, Leaves, Demand1}
+use Rattle.answers.specs.Demand1.{slotsOver, FrontSlots, AfterContain, Demand1}
 use Rattle.answers.proofs.ChecksLaws.{by-test, by-read}
 use Rattle.answers.proofs.WalkRows.{whole-of, final-of}
 use Rattle.answers.proofs.ContainTable.{contain-table}
@@ -42,7 +42,7 @@ full-front A B b S r before ns e =
       list = l .0;
       is-list = l .1;
       longer = lt-of-not-le (λ h. w .0 (l .0) (record { list = l .1; room = h }));
-      slots = ap (written before) (walk-full-front A B b S ns e (l .0) (l .1));
+      slots = ap (slotsOver before) (walk-full-front A B b S ns e (l .0) (l .1));
     }
 
 module _ (f g : List ℕ) (b : ℕ) (work word : List ℕ) where
@@ -50,7 +50,7 @@ module _ (f g : List ℕ) (b : ℕ) (work word : List ℕ) where
   S = slotCount (length work)
 
   abbrev Left : Contain → Type 0
-  Left c = Leaves f g b work word (c .outcome) (c .work) (c .word)
+  Left c = AfterContain f g b work word (c .outcome) (c .work) (c .word)
 
   module _ (A B : Automaton) (rA : readFile f ≡ holds A) (rB : readFile g ≡ holds B) where
     both : {P : Automaton → Automaton → Type 0} → P A B → Both f g P
@@ -65,7 +65,7 @@ module _ (f g : List ℕ) (b : ℕ) (work word : List ℕ) where
         v = wordOf A B b ns n
 
         go : (c : Bool) → leb (length v) (length word) ≡ c
-            → Leaves f g b work word (Compared (cond c (Differs (length ns) (length v)) (NoRoom (length v)))) (written work ns)
+            → AfterContain f g b work word (Compared (cond c (Differs (length ns) (length v)) (NoRoom (length v)))) (slotsOver work ns)
             (cond c (v ++ drop (length v) word) word)
         go true t = both (final-of e (refl, refl, refl, refl))
         go false t = both (final-of e (refl, leb-false (length v) (length word) t, refl, refl))
@@ -74,7 +74,7 @@ module _ (f g : List ℕ) (b : ℕ) (work word : List ℕ) where
   stops : (n file : ℕ) → Left (refusing n file work word)
   stops n file = (refl, refl)
 
-  pub contain-leaves : Leaves f g b work word (outcomeOf f g b work word) (workOf f g b work word) (wordBuffer f g b work word)
+  pub contain-leaves : AfterContain f g b work word (outcomeOf f g b work word) (workOf f g b work word) (wordBuffer f g b work word)
   unfolding containing deciding comparing
   contain-leaves =
       by-read Left (readFile f) (λ n. refusing n 1 work word) _ (λ n _. stops n 1) λ A rA.

@@ -15,7 +15,7 @@ use lib.ListN.{length, take}
 use Rattle.automaton.specs.declared.Automaton.{Automaton}
 use Rattle.runs.specs.Containment.{Contained, Shows}
 use Rattle.runs.specs.DeadStates.{Dead}
-use Rattle.automaton.proofs.Tests.{not-T-false}
+use Rattle.automaton.proofs.Booleans.{not-T-false}
 use Rattle.format.specs.File.{holds, readFile}
 use Rattle.format.proofs.FileLaws.{file-in-range}
 use Rattle.deadstates.specs.DeadEnds.{hasDead}

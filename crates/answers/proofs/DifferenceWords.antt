@@ -9,7 +9,7 @@ use lib.Seq.{take-append-seam}
 use Rattle.automaton.specs.declared.Automaton.{Automaton}
 use Rattle.automaton.specs.Automata.{InRange}
 use Rattle.runs.specs.Containment.{Shows}
-use Rattle.automaton.proofs.Tests.{clash}
+use Rattle.automaton.proofs.Booleans.{clash}
 use Rattle.slots.specs.declared.Vertex.{Vertex}
 use Rattle.graph.specs.Discovery.{Node, ended}
 use Rattle.graph.specs.Walks.{wordOf, wordAfter, Fits}

@@ -3,9 +3,9 @@
 --   ContainRefusal n file   n and its file are refusals of contain before the walk
 --   Listed S room x         no other answer x occurs with S slots and room for so many letters; a word is no longer than the place of its final
 --                           vertex
---   written before ns       the slots of the vertices ns, then the bytes of `before`
+--   slotsOver before ns     the slots of the vertices ns, then the bytes of `before`
 --   FrontSlots              refusal 10's slots: the first S vertices of the discovery list, which is longer
---   Leaves x work' word'    the buffers after the answer x
+--   AfterContain x ..       the buffers after the answer x
 -- Shown by `contain-demand-1`. Assumes nothing.
 use mathlib.Core.Path.{_≡_}
 use mathlib.Core.List.{List, _++_}
@@ -42,30 +42,30 @@ Listed S room (Refused n file) = ContainRefusal n file
 Listed S room (Compared (NoSlots n)) = n ≡ S
 Listed S room (Compared (NoRoom len)) = (room < len) × (len ≤ S)
 
-abbrev pub written : List ℕ → List (Node Vertex) → List ℕ
-written before ns = slotsOf ns ++ drop (slotSize * length ns) before
+abbrev pub slotsOver : List ℕ → List (Node Vertex) → List ℕ
+slotsOver before ns = slotsOf ns ++ drop (slotSize * length ns) before
 
 pub record FrontSlots (A B : Automaton) (b S : ℕ) (before after : List ℕ) : Type 0 where
   pub list : Walk Vertex
   pub is-list : DiscoveryList (lagGraph A B b) list
   pub longer : S < length (nodesOf list)
-  pub slots : after ≡ written before (take S (nodesOf list))
+  pub slots : after ≡ slotsOver before (take S (nodesOf list))
 
 module _ (f g : List ℕ) (b : ℕ) (work word : List ℕ) where
-  abbrev pub Leaves : Outcome → List ℕ → List ℕ → Type 0
-  Leaves (Refused n file) work' word' = (work' ≡ work) × (word' ≡ word)
-  Leaves (Compared (NoSlots n)) work' word' =
+  abbrev pub AfterContain : Outcome → List ℕ → List ℕ → Type 0
+  AfterContain (Refused n file) work' word' = (work' ≡ work) × (word' ≡ word)
+  AfterContain (Compared (NoSlots n)) work' word' =
       let S = slotCount (length work) in
       Both f g (λ A B. (n ≡ S) × FrontSlots A B b S work work' × (word' ≡ word))
-  Leaves (Compared (NoRoom len)) work' word' =
+  AfterContain (Compared (NoRoom len)) work' word' =
       Both f g (λ A B. Final A B b (slotCount (length work)) (λ ns n.
-      (len ≡ length (wordOf A B b ns n)) × (length word < len) × (work' ≡ written work ns) × (word' ≡ word)))
-  Leaves (Compared (Contained count)) work' word' =
+      (len ≡ length (wordOf A B b ns n)) × (length word < len) × (work' ≡ slotsOver work ns) × (word' ≡ word)))
+  AfterContain (Compared (Contained count)) work' word' =
       Both f g (λ A B. Whole A B b (slotCount (length work)) (λ ns.
-      (count ≡ length ns) × (work' ≡ written work ns) × (word' ≡ word)))
-  Leaves (Compared (Differs i len)) work' word' =
+      (count ≡ length ns) × (work' ≡ slotsOver work ns) × (word' ≡ word)))
+  AfterContain (Compared (Differs i len)) work' word' =
       Both f g (λ A B. Final A B b (slotCount (length work)) (λ ns n.
-      (i ≡ length ns) × (len ≡ length (wordOf A B b ns n)) × (work' ≡ written work ns) × (word' ≡ wordOf A B b ns n ++ drop len word)))
+      (i ≡ length ns) × (len ≡ length (wordOf A B b ns n)) × (work' ≡ slotsOver work ns) × (word' ≡ wordOf A B b ns n ++ drop len word)))
 
   pub record Demand1 : Type 0 where
     -- the first row of the table whose condition holds gives the answer
@@ -74,4 +74,4 @@ module _ (f g : List ℕ) (b : ℕ) (work word : List ℕ) where
     pub first-reads : ReadsAs f
     pub second-reads : ReadsAs g
     pub occurs : Listed (slotCount (length work)) (length word) (outcomeOf f g b work word)
-    pub leaves : Leaves (outcomeOf f g b work word) (workOf f g b work word) (wordBuffer f g b work word)
+    pub leaves : AfterContain (outcomeOf f g b work word) (workOf f g b work word) (wordBuffer f g b work word)

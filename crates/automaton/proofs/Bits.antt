@@ -15,7 +15,7 @@ use lib.Seq.{getD-set-same, getD-set-other}
 use Rattle.automaton.specs.declared.Automaton.{Automaton}
 use Rattle.automaton.specs.Sets.{bit, withBit, member}
 use Rattle.automaton.specs.Automata.{maxStates, maxLetters, accepts, place, transitionBit, transition, bare, withAccepting, withTransition, headerValues, InRange}
-use Rattle.automaton.proofs.Tests.{or-cases, or-left, or-right, and-both, both-and, same-test, is-true, not-T-false}
+use Rattle.automaton.proofs.Booleans.{or-cases, or-left, or-right, and-both, both-and, same-test, is-true, not-T-false}
 use Rattle.automaton.proofs.InRange.{three-and, and-three, inHeader, in-header-iff, header-values-iff}
 
 -- Bits of a number.

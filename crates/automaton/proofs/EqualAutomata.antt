@@ -11,7 +11,7 @@ use lib.Seq.{ext-getD}
 use Rattle.automaton.specs.declared.Automaton.{Automaton}
 use Rattle.automaton.specs.Sets.{Bytes, bit, member}
 use Rattle.automaton.specs.Automata.{maxStates, maxLetters, accepts, place, transitionBit, transition, InRange}
-use Rattle.automaton.proofs.Tests.{and-both, both-and, same-test, clash}
+use Rattle.automaton.proofs.Booleans.{and-both, both-and, same-test, clash}
 use Rattle.automaton.proofs.Transitions.{transition-parts, parts-transition}
 
 -- Bytes by their bits.

@@ -9,7 +9,7 @@ use Rattle.automaton.specs.declared.Automaton.{Automaton}
 use Rattle.automaton.specs.Ranges.{some}
 use Rattle.automaton.specs.Sets.{member}
 use Rattle.automaton.specs.Automata.{maxStates, maxLetters, transitionBit, headerValues, InRange, strayState, strayTransition, stray, inRange}
-use Rattle.automaton.proofs.Tests.{or-cases, or-left, or-right, and-both, both-and, is-true, is-false}
+use Rattle.automaton.proofs.Booleans.{or-cases, or-left, or-right, and-both, both-and, is-true, is-false}
 use Rattle.automaton.proofs.Ranges.{some-at, some-below}
 
 -- three tests joined

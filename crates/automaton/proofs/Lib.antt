@@ -1,5 +1,5 @@
 -- Laws and theorems about automata.
-pub mod Tests
+pub mod Booleans
 pub mod Ranges
 pub mod Members
 pub mod Transitions

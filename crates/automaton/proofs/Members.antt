@@ -18,7 +18,7 @@ use Rattle.automaton.specs.Ranges.{some, those, total}
 use Rattle.automaton.specs.Sets.{bit, leastMember}
 use Rattle.automaton.specs.Automata.{transition, targets, one, transitionCount}
 use Rattle.automaton.specs.Members.{transitionIn, nextFrom, countFrom}
-use Rattle.automaton.proofs.Tests.{clash}
+use Rattle.automaton.proofs.Booleans.{clash}
 
 -- what does not change from k to k + 1, for the k from i to below j, is the same at i and j
 same-along : {X : Type 0} (g : ℕ → X) (i j : ℕ) → i ≤ j → ((k : ℕ) → i ≤ k → k < j → g k ≡ g (suc k)) → g i ≡ g j

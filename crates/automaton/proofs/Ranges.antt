@@ -9,7 +9,7 @@ use native.Mathlib.Omega.{arith}
 use lib.Dec.{T}
 use lib.ListN.{length, getD}
 use Rattle.automaton.specs.Ranges.{some, those, table, largest}
-use Rattle.automaton.proofs.Tests.{or-cases, or-left, or-right}
+use Rattle.automaton.proofs.Booleans.{or-cases, or-left, or-right}
 
 -- Tables.
 

@@ -5,7 +5,7 @@ use lib.Dec.{T, ltb, ltb→lt, lt→ltb}
 use Rattle.automaton.specs.declared.Automaton.{Automaton}
 use Rattle.automaton.specs.Automata.{accepts, transition, transitionBit}
 use Rattle.automaton.specs.Sets.{member}
-use Rattle.automaton.proofs.Tests.{and-both, both-and}
+use Rattle.automaton.proofs.Booleans.{and-both, both-and}
 
 module _ (A : Automaton) where
   -- the four tests of a transition

@@ -7,7 +7,6 @@ mod targets;
 
 pub use sets::accepts_in;
 pub use sets::add_member;
-pub use sets::cleared_below;
 pub use sets::has_bit;
 pub use sets::least_member;
 pub use sets::least_members;
@@ -15,7 +14,6 @@ pub use sets::power;
 pub use sets::wide;
 pub use sets::with_bit;
 pub use targets::add_transition;
-pub use targets::next_target;
 pub use targets::transition_in;
 
 // The most states and the most letters that a header allows.

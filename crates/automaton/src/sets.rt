@@ -1,6 +1,6 @@
 // Sets of states, held eight states to a byte: the bits of a byte, its least member, and membership.
 ghost use mathlib.Core.Path.{_≡_};
-ghost use Prim.Native.Nat.{_<_, _^_, _/_, _*_};
+ghost use Prim.Native.Nat.{_<_, _^_};
 ghost use Rattle.automaton.specs.Sets.{bit, withBit, member, leastMember, leastMembers};
 ghost use Rattle.automaton.specs.Members.{withMember};
 
@@ -33,14 +33,6 @@ pub fn with_bit(w: u8, i: usize) -> u8
     ensures { λ r. ⌜ r ≡ withBit w i ⌝ }
 {
     w | power(i)
-}
-
-// The byte with its bits below i cleared.
-pub fn cleared_below(w: u8, i: usize) -> u8
-    requires { ⌜ i < 8 ⌝ }
-    ensures { λ r. ⌜ r ≡ w / 2 ^ i * 2 ^ i ⌝ }
-{
-    w >> i << i
 }
 
 // Whether the set has state q.

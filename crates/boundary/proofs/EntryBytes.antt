@@ -14,7 +14,7 @@ use lib.Dec.{T, eqb, eqb→eq}
 use lib.ListN.{length, getD, set, take, drop, length-append, length-take, length-drop, take-append-drop, drop-of-length-le}
 use lib.Seq.{take-all, take-at, drop-at, drop-drop, drop-cons, sets, sets-eq, length-sets, paste, paste-suc}
 use Rattle.automaton.specs.Automata.{one}
-use Rattle.automaton.proofs.Tests.{or-cases, and-both, is-true}
+use Rattle.automaton.proofs.Booleans.{or-cases, and-both, is-true}
 use Rattle.slots.proofs.SlotLayout.{part-back}
 use Rattle.history.specs.declared.Entry.{Entry}
 use Rattle.history.specs.Entries.{WellFormed}

@@ -9,7 +9,7 @@ use lib.Dec.{T, eqb, eqb→eq}
 use Rattle.automaton.specs.Ranges as ranges
 use Rattle.automaton.specs.Automata as automata
 use Rattle.relations.specs.Closure as paths
-use Rattle.automaton.proofs.Tests.{and-both}
+use Rattle.automaton.proofs.Booleans.{and-both}
 use Rattle.format.specs.Records as records
 use Rattle.format.specs.Writing as writing
 use Rattle.format.specs.File as file

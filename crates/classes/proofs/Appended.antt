@@ -14,7 +14,7 @@ use lib.ListN.{length, getD, set, replicate, length-set, length-replicate, getD-
 use lib.Seq.{getD-set-same, getD-set-other}
 use Rattle.automaton.specs.Automata.{maxStates}
 use Rattle.automaton.specs.Sets.{bit, withBit}
-use Rattle.automaton.proofs.Tests.{is-true, not-T-false, same-test, clash}
+use Rattle.automaton.proofs.Booleans.{is-true, not-T-false, same-test, clash}
 use Rattle.automaton.proofs.Bits.{bit-zero, bit-with, bit-set}
 use Rattle.relations.proofs.Rows.{some-same, some-more}
 use Rattle.slots.specs.declared.Vertex.{Vertex}

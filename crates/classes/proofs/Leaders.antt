@@ -11,7 +11,7 @@ use borrow.Author.Tests.{eqb-true, eqb-false, eq-eqb}
 use lib.Dec.{T, eqb}
 use lib.ListN.{length, getD}
 use lib.Seq.{ext-getD}
-use Rattle.automaton.proofs.Tests.{T-true, is-true, not-T-false, and-both, clash}
+use Rattle.automaton.proofs.Booleans.{T-true, is-true, not-T-false, and-both, clash}
 use Rattle.slots.specs.Slots.{sameList}
 use Rattle.slots.proofs.Vertices.{same-list-eq, same-list-refl}
 use Rattle.classes.specs.Classes.{countersAt, classOf, leads, keyOf, keys, topLeader, Chained}

@@ -13,7 +13,7 @@ use lib.ListN.{getD}
 use Rattle.automaton.specs.Automata.{maxStates}
 use Rattle.automaton.specs.Ranges.{some}
 use Rattle.automaton.specs.Sets.{bit}
-use Rattle.automaton.proofs.Tests.{T-true, is-true, not-T-false, and-both, both-and, same-test, clash}
+use Rattle.automaton.proofs.Booleans.{T-true, is-true, not-T-false, and-both, both-and, same-test, clash}
 use Rattle.automaton.proofs.Ranges.{some-at, some-below}
 use Rattle.automaton.proofs.Bits.{bit-zero}
 use Rattle.relations.proofs.Rows.{bit-and, some-same}

@@ -13,7 +13,7 @@ use lib.ListN.{getD}
 use lib.Pow.{shl-exact, shl-shr}
 use Rattle.automaton.specs.Ranges.{some}
 use Rattle.automaton.proofs.Ranges.{some-at, some-below}
-use Rattle.automaton.proofs.Tests.{T-true, is-true, is-false, not-T-false, same-test, clash}
+use Rattle.automaton.proofs.Booleans.{T-true, is-true, is-false, not-T-false, same-test, clash}
 use Rattle.classes.specs.Classes.{eightFrom}
 
 -- a statement of each number below 8

@@ -16,7 +16,7 @@ use Rattle.automaton.specs.Automata.{accepts, transition, transitionBit, InRang
 use Rattle.automaton.specs.Members.{transitionIn}
 use Rattle.relations.specs.Closure.{related, relation, closure, reaches, rowHas}
 use Rattle.deadstates.specs.DeadEnds.{edge, paths, live, dead, deadStates, hasDead}
-use Rattle.automaton.proofs.Tests.{or-cases, T-true, not-T-false}
+use Rattle.automaton.proofs.Booleans.{or-cases, T-true, not-T-false}
 use Rattle.automaton.proofs.Ranges.{table-at}
 use Rattle.automaton.proofs.InRange.{inHeader, in-header-iff}
 use Rattle.relations.proofs.Closure.{closure-below}

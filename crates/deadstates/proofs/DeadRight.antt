@@ -13,7 +13,7 @@ use Rattle.automaton.specs.Automata.{maxStates, accepts, transition}
 use Rattle.relations.specs.Closure.{related, relation, reaches}
 use Rattle.runs.specs.Runs.{Run, here, step, Reaches, OnLoop}
 use Rattle.runs.specs.DeadStates.{Dead}
-use Rattle.automaton.proofs.Tests.{or-cases, or-left, or-right, and-both, both-and}
+use Rattle.automaton.proofs.Booleans.{or-cases, or-left, or-right, and-both, both-and}
 use Rattle.automaton.proofs.Ranges.{table-at, some-at, some-below}
 use Rattle.automaton.proofs.Transitions.{transition-from, transition-on, transition-into, accepts-below}
 use Rattle.runs.proofs.Runs.{run-below}

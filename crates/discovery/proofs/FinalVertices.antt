@@ -9,7 +9,7 @@ use borrow.Author.Tests.{ltb-true, ltb-false}
 use lib.Dec.{ltb}
 use lib.ListN.{length, getD}
 use Rattle.automaton.specs.Ranges.{some}
-use Rattle.automaton.proofs.Tests.{T-true, is-true, clash}
+use Rattle.automaton.proofs.Booleans.{T-true, is-true, clash}
 use Rattle.automaton.proofs.Ranges.{some-at, some-below}
 use Rattle.slots.specs.Slots.{allZero}
 use Rattle.slots.proofs.Compared.{not-zero-at, zero-everywhere}

@@ -13,7 +13,7 @@ use lib.Pow.{shr-shr}
 use Rattle.automaton.specs.Ranges.{some, those}
 use Rattle.automaton.specs.Sets.{bit, withBit, leastMember}
 use Rattle.automaton.specs.Members.{nextFrom}
-use Rattle.automaton.proofs.Tests.{T-true, is-true, clash}
+use Rattle.automaton.proofs.Booleans.{T-true, is-true, clash}
 use Rattle.automaton.proofs.Ranges.{some-below}
 use Rattle.automaton.proofs.Members.{next-before, next-holds, next-end, next-in-byte, next-past-byte, those-same}
 use Rattle.automaton.proofs.Bits.{bit-zero, bit-with}

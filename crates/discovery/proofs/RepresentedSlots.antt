@@ -14,7 +14,7 @@ use lib.Seq.{take-at, drop-at, drop-drop}
 use Rattle.automaton.specs.declared.Automaton.{Automaton}
 use Rattle.automaton.specs.Automata.{maxStates}
 use Rattle.automaton.specs.Ranges.{some}
-use Rattle.automaton.proofs.Tests.{or-left, or-right, T-true, is-true, not-T-false, clash}
+use Rattle.automaton.proofs.Booleans.{or-left, or-right, T-true, is-true, not-T-false, clash}
 use Rattle.automaton.proofs.Ranges.{some-at, some-below}
 use Rattle.slots.specs.declared.Vertex.{Vertex}
 use Rattle.slots.specs.Slots.{slotSize, slotCount, slotBytes, sameVertex, allZero}

@@ -25,7 +25,7 @@ use Rattle.file.specs.declared.Start.the-variants.{NoHeader}
 use Rattle.file.specs.declared.Progress.{Progress}
 use Rattle.file.specs.declared.Progress.the-variants.{Refused, Whole, Goes}
 use Rattle.format.specs.File.{Read, Step, over, next, refused, holds, check, header, takes, recordAt, readFile}
-use Rattle.file.specs.Taking.{headWith, startStep, Headed, progressStep, automatonAfter, automatonRead, Taken, refusalOf}
+use Rattle.file.specs.Taking.{headWith, startStep, Headed, progressStep, automatonAfter, automatonRead, RecordTaken, refusalOf}
 use Rattle.format.proofs.RecordSteps.{HeaderStep, no-header, starts, header-step, record-advances}
 use Rattle.format.proofs.RecordSteps.{readAfter, read-file, read-over, read-next}
 use Rattle.file.proofs.LeftAutomata.{leftAfter, left-file, left-over, left-next, unheaded-automaton}
@@ -33,12 +33,12 @@ use Rattle.file.proofs.LeftAutomata.{leftAfter, left-file, left-over, l
 -- The step of a record that was read.
 
 -- what a record came to, with B left of A
-pub taken : {x : Step} (p : Progress) {A B : Automaton} → x ≡ progressStep p B → automatonAfter (progressStep p B) A ≡ B → Taken x p A B
+pub taken : {x : Step} (p : Progress) {A B : Automaton} → x ≡ progressStep p B → automatonAfter (progressStep p B) A ≡ B → RecordTaken x p A B
 taken p {A} e l = record { step = e; left = sym (ap (λ y. automatonAfter y A) e ∙ l) }
 
 pub record-taken : (s : List ℕ) (i : ℕ) (A : Automaton) (x y : Record) {p : Progress} {B : Automaton} → x ≡ recordIn s i → x ≡ y
-    → Taken (takes y A) p A B → Taken (recordAt s i A) p A B
-record-taken s i A x y {p} {B} d e h = subst (λ (z : Record). Taken (takes z A) p A B) (sym e ∙ d) h
+    → RecordTaken (takes y A) p A B → RecordTaken (recordAt s i A) p A B
+record-taken s i A x y {p} {B} d e h = subst (λ (z : Record). RecordTaken (takes z A) p A B) (sym e ∙ d) h
 
 -- The header.
 
@@ -104,7 +104,7 @@ pub record ReadTo (s : List ℕ) (i : ℕ) (A : Automaton) : Type 0 where
   pub automaton : automatonRead s ≡ leftAfter s (recordAt s i A) A
 
 -- the record at i comes to p, with B the automaton after it
-module _ (s : List ℕ) (i : ℕ) (A B : Automaton) (p : Progress) (to : ReadTo s i A) (t : Taken (recordAt s i A) p A B) where
+module _ (s : List ℕ) (i : ℕ) (A B : Automaton) (p : Progress) (to : ReadTo s i A) (t : RecordTaken (recordAt s i A) p A B) where
   came : {q : Progress} → p ≡ q → recordAt s i A ≡ progressStep q B
   came d = t .step ∙ ap (λ (x : Progress). progressStep x B) d
 

@@ -8,7 +8,7 @@
 --   automatonPast n s x A      the automaton after the step x of the file s and the records past it, at most n of them, with A before the step
 --   automatonRead s    the automaton of the file's header and its records before the first fault, or before the end; with no header the bare one
 --                      of no states
---   Taken x p A B      the step x came to p, and left B of A
+--   RecordTaken x p A B  the step x came to p, and left B of A
 --   refusalOf r        the refusal's number; 0 where there is none
 --   readingOf r        what the reader's struct holds of r: with a refusal its automaton is bare
 -- Only contracts of the reader name these. Shown by `reading-advances`, `reading-ends` and `reading-refused`: how the reading goes on after a step
@@ -57,7 +57,7 @@ automatonPast (suc n) s (next i B) A = automatonPast n s (recordAt s i B) B
 unfoldable pub automatonRead : List ℕ → Automaton
 automatonRead s = automatonPast (length s) s (header s) (bare 0 0 0)
 
-pub record Taken (x : Step) (p : Progress) (A B : Automaton) : Type 0 where
+pub record RecordTaken (x : Step) (p : Progress) (A B : Automaton) : Type 0 where
   pub step : x ≡ progressStep p B
   pub left : B ≡ automatonAfter x A
 

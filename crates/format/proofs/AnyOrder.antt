@@ -11,7 +11,7 @@ use lib.ListN.{getD, set, replicate}
 use Rattle.automaton.specs.declared.Automaton.{Automaton}
 use Rattle.automaton.specs.Sets.{withBit}
 use Rattle.automaton.specs.Automata.{accepts, transition, bare, withAccepting, withTransition}
-use Rattle.automaton.proofs.Tests.{same-test}
+use Rattle.automaton.proofs.Booleans.{same-test}
 use Rattle.automaton.specs.Sets.{Bytes}
 use Rattle.automaton.proofs.EqualAutomata.{equal-automata}
 use Rattle.format.specs.File.{holds, readFile}

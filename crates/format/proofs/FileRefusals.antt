@@ -12,7 +12,7 @@ use Rattle.automaton.proofs.Bits.{bare-header}
 use Rattle.format.specs.Writing.{Item, headerBytes, itemsBytes}
 use Rattle.format.specs.File.{refused, Step, header, readFile}
 use Rattle.format.specs.Spelling.{withItems}
-use Rattle.format.specs.Refusals.{Front, nothing, past, frontBytes, Fits, Fault, one, two, four, five, Refusal, ReadsAs}
+use Rattle.format.specs.Refusals.{Front, nothing, past, frontBytes, FrontFits, Fault, one, two, four, five, Refusal, ReadsAs}
 use Rattle.format.proofs.RecordSteps.{Has, Faulty, first, second, fourth, fifth, HeaderStep, no-header, starts, header-step, header-starts, header-fault, readAfter, read-file, read-over}
 use Rattle.format.proofs.FileLaws.{bare-whole}
 use Rattle.format.proofs.Items.{within-same, Fit, fit-of, fit-within, fit-distinct, with-items-has-iff, with-items-header}
@@ -83,7 +83,7 @@ refused-refusal s c e = go (header-step s) (sym (read-file s) ∙ e)
 refusal-refused : (s : List ℕ) (c : ℕ) → Refusal s c → readFile s ≡ refused c
 refusal-refused s c r = go (r .front) (r .bytes) (r .fits) (r .fault)
   where
-    go : (F : Front) → s ≡ frontBytes F ++ r .rest → Fits F → Fault F (r .rest) c → readFile s ≡ refused c
+    go : (F : Front) → s ≡ frontBytes F ++ r .rest → FrontFits F → Fault F (r .rest) c → readFile s ≡ refused c
     go nothing e t f =
         read-file s ∙ ap (readAfter s) (header-fault s (subst (λ (l : List ℕ). Fault nothing l c) (sym e) f)) ∙ read-over s (refused c)
     go (past n k i xs) e t f =

@@ -11,7 +11,7 @@ use lib.Dec.{T, T-not, leb→le, ltb, ltb→lt, lt→ltb}
 use lib.ListN.{length, getD, drop, length-drop}
 use Rattle.automaton.specs.declared.Automaton.{Automaton}
 use Rattle.automaton.specs.Automata.{accepts, transition, bare, headerValues}
-use Rattle.automaton.proofs.Tests.{T-true, not-T-false}
+use Rattle.automaton.proofs.Booleans.{T-true, not-T-false}
 use Rattle.automaton.proofs.InRange.{inHeader, in-header-iff}
 use Rattle.format.specs.declared.Record.{Record}
 use Rattle.format.specs.Marks.{has, marked, headerMark, endMark, HeaderMark, header-mark, RecordMark, end-mark}

@@ -10,7 +10,7 @@ use borrow.Author.Tests.{le-leb, lt-leb, eq-eqb, ne-eqb}
 use lib.Dec.{T, eqb, eqb→eq, leb→le, le→leb}
 use lib.ListN.{length, getD, drop, length-drop}
 use lib.Seq.{drop-cons, drop-drop, getD-drop}
-use Rattle.automaton.proofs.Tests.{and-both, both-and, is-true, not-T-false}
+use Rattle.automaton.proofs.Booleans.{and-both, both-and, is-true, not-T-false}
 use Rattle.format.specs.declared.Record.{Record}
 use Rattle.format.specs.declared.Record.the-variants.{Fault, Accepting, Transition, End}
 use Rattle.format.specs.Marks.{has, marked, acceptingMark, transitionMark, endMark, RecordMark, accepting-mark, transition-mark, end-mark}

@@ -1,7 +1,7 @@
 -- Refusals 1 to 5 in the terms of their table, without the reader (01, "The file" and the table): the file's records fit up to a place, and the
 -- record there has the fault.
 --   Front              what stands before a place: nothing, or a header (states, letters, initial state) and records past it
---   Fits               that header is in range, and these records are within it and distinct
+--   FrontFits               that header is in range, and these records are within it and distinct
 --   Marks              the marks known at a place, with their number of fields: the header's at the start, the others past it
 --   Ends, BadMark      conditions 1 and 2 of the bytes l from a place on
 --   Fault F l n        the record at the start of l, after F, has fault n
@@ -29,9 +29,9 @@ abbrev pub frontBytes : Front → List ℕ
 frontBytes nothing = []
 frontBytes (past n k i xs) = headerBytes n k i ++ itemsBytes xs
 
-abbrev pub Fits : Front → Type 0
-Fits nothing = Unit {0}
-Fits (past n k i xs) = T (headerValues n k i) × ((x : Item) → List·Memᴰ x xs → Within n k x) × Distinct xs
+abbrev pub FrontFits : Front → Type 0
+FrontFits nothing = Unit {0}
+FrontFits (past n k i xs) = T (headerValues n k i) × ((x : Item) → List·Memᴰ x xs → Within n k x) × Distinct xs
 
 abbrev pub Marks : Front → ℕ → ℕ → Type 0
 Marks nothing = HeaderMark
@@ -64,7 +64,7 @@ pub record Refusal (s : List ℕ) (n : ℕ) : Type 0 where
   pub front : Front
   pub rest : List ℕ
   pub bytes : s ≡ frontBytes front ++ rest
-  pub fits : Fits front
+  pub fits : FrontFits front
   pub fault : Fault front rest n
 
 pub record ReadsAs (s : List ℕ) : Type 0 where

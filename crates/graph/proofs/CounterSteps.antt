@@ -12,7 +12,7 @@ use lib.ListN.{length, getD, List·getD-eq-default}
 use Rattle.automaton.specs.declared.Automaton.{Automaton}
 use Rattle.automaton.specs.Ranges.{some, largest}
 use Rattle.automaton.specs.Automata.{maxStates, accepts, transition}
-use Rattle.automaton.proofs.Tests.{and-both, both-and, is-true, T-true}
+use Rattle.automaton.proofs.Booleans.{and-both, both-and, is-true, T-true}
 use Rattle.automaton.proofs.Ranges.{table-at, length-table, some-below, some-at, largest-ub, largest-at}
 use Rattle.automaton.proofs.Transitions.{transition-from}
 use Rattle.runs.proofs.LagSteps.{next}

@@ -12,7 +12,7 @@ use lib.ListN.{length, getD, List·getD-eq-default}
 use Rattle.automaton.specs.declared.Automaton.{Automaton}
 use Rattle.automaton.specs.Automata.{maxStates, accepts}
 use Rattle.runs.specs.Runs.{Run, here, step}
-use Rattle.automaton.proofs.Tests.{is-true, T-true}
+use Rattle.automaton.proofs.Booleans.{is-true, T-true}
 use Rattle.automaton.proofs.Ranges.{table-at, length-table}
 use Rattle.automaton.proofs.Transitions.{transition-from, transition-into}
 use Rattle.runs.proofs.LagSteps.{next, Ok, LagIn, lag-iff}

@@ -11,7 +11,7 @@ use native.Mathlib.Omega.{arith}
 use lib.ListN.{length, getD}
 use Rattle.automaton.specs.declared.Automaton.{Automaton}
 use Rattle.automaton.specs.Automata.{maxStates}
-use Rattle.automaton.proofs.Tests.{clash}
+use Rattle.automaton.proofs.Booleans.{clash}
 use Rattle.runs.specs.Containment.{Contained, Shows}
 use Rattle.runs.proofs.Pigeonhole.{pigeonhole}
 use Rattle.slots.specs.declared.Vertex.{Vertex}

@@ -7,7 +7,7 @@ use Prim.Native.Nat.{ℕ, zero, suc, _+_, _≤_, _<_}
 use native.Mathlib.Omega.{arith}
 use lib.ListN.{length}
 use Rattle.automaton.specs.Ranges.{those}
-use Rattle.automaton.proofs.Tests.{clash}
+use Rattle.automaton.proofs.Booleans.{clash}
 use Rattle.graph.specs.Discovery.{Graph, Node, Walk, going, ended, full, node, listed, discover, discoverAll}
 use Rattle.graph.proofs.Discoveries.{DiscoverCase, known, ends, appended, no-slot, discover-case, discover-all-ended, discover-all-full}
 

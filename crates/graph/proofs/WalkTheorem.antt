@@ -13,7 +13,7 @@ use Rattle.automaton.specs.declared.Automaton.{Automaton}
 use Rattle.automaton.specs.Automata.{maxStates}
 use Rattle.runs.specs.Runs.{Run, Prefix}
 use Rattle.runs.specs.Containment.{Follows, Contained, Shows}
-use Rattle.automaton.proofs.Tests.{is-true, T-true, clash}
+use Rattle.automaton.proofs.Booleans.{is-true, T-true, clash}
 use Rattle.runs.proofs.FollowedBy.{FollowedBy, AllFollowed}
 use Rattle.runs.proofs.Contained.{follows-followed, contained-followed}
 use Rattle.slots.specs.declared.Vertex.{Vertex}

@@ -16,7 +16,7 @@ use Rattle.slots.specs.declared.Vertex.{Vertex}
 use Rattle.slots.specs.Slots.{slotCount}
 use Rattle.graph.specs.Discovery.{Walk, going, ended, full}
 use Rattle.graph.specs.Walks.{walkOf, workAfter, wordOf}
-use Rattle.answers.specs.Demand1.{written}
+use Rattle.answers.specs.Demand1.{slotsOver}
 use Rattle.answers.proofs.ChecksLaws.{by-test, by-read}
 use Rattle.answers.proofs.WalkRows.{whole-of, final-of}
 use Rattle.answers.proofs.ContainDemand.{full-front}
@@ -27,8 +27,8 @@ use Rattle.history.specs.Opens.{Vetted, stopped, passed, openChecks, ope
 use Rattle.history.specs.Offers.{Offer, offerOf}
 use Rattle.history.proofs.OfferWalks.{answerBy, workBy, wordBy}
 use Rattle.history.proofs.OfferCases.{giving, walked, by-offer}
-use Rattle.history.specs.OpenDemand.{OpenLeaves, OpenDemand1}
-use Rattle.history.specs.OfferDemand.{OfferLeaves, OfferDemand1}
+use Rattle.history.specs.OpenDemand.{AfterOpen, OpenDemand1}
+use Rattle.history.specs.OfferDemand.{AfterOffer, OfferDemand1}
 use Rattle.history.specs.VerdictDemand.{VerdictDemand1}
 use Rattle.history.proofs.FileConditions.{file-of}
 use Rattle.history.proofs.OpenTable.{open-table}
@@ -40,9 +40,9 @@ use Rattle.history.proofs.VerdictAnswers.{verdict-numbers}
 
 module _ (E : Entry) (f : List ℕ) where
   abbrev LeftOpen : Vetted → Type 0
-  LeftOpen v = OpenLeaves E f (opened E v .answer) (opened E v .entry)
+  LeftOpen v = AfterOpen E f (opened E v .answer) (opened E v .entry)
 
-  open-leaves : OpenLeaves E f (openOf E f .answer) (openOf E f .entry)
+  open-leaves : AfterOpen E f (openOf E f .answer) (openOf E f .entry)
   unfolding openOf openChecks
   open-leaves =
       by-test LeftOpen (malformed E) (stopped 9) _ (λ _. refl) λ _.
@@ -60,7 +60,7 @@ module _ (E : Entry) (f : List ℕ) (b : ℕ) (work word : List ℕ) where
   S = slotCount (length work)
 
   abbrev Left : Offer → Type 0
-  Left o = OfferLeaves E f b work word (o .answer) (o .entry) (o .work) (o .word)
+  Left o = AfterOffer E f b work word (o .answer) (o .entry) (o .work) (o .word)
 
   module _ (B : Automaton) (r : readFile f ≡ holds B) (i : InRange (E .held)) where
     abbrev H : Automaton
@@ -75,19 +75,19 @@ module _ (E : Entry) (f : List ℕ) (b : ℕ) (work word : List ℕ) where
         v = wordOf B H b ms m
 
         go : (c : Bool)
-            → Left (giving E B (cond c (Back (length ns) (length ms) (length v)) (NoRoom 2 (length v))) (written (written work ns) ms)
+            → Left (giving E B (cond c (Back (length ns) (length ms) (length v)) (NoRoom 2 (length v))) (slotsOver (slotsOver work ns) ms)
             (cond c (v ++ drop (length v) word) word))
         go true = (refl, file-of r (whole-of d (final-of e (refl, refl, refl, refl, refl))))
         go false = (refl, refl, file-of r (inr (refl, whole-of d (final-of e (refl, refl)))))
     walks-leave (going ns) (full ms) d e =
-        (refl, refl, file-of r (inr (refl, whole-of d (full-front B H b S (file-in-range f B r) (written work ns) ms e))))
+        (refl, refl, file-of r (inr (refl, whole-of d (full-front B H b S (file-in-range f B r) (slotsOver work ns) ms e))))
     walks-leave (ended ns n) back d e = go (leb (length v) (length word))
       where
         v : List ℕ
         v = wordOf H B b ns n
 
         go : (c : Bool)
-            → Left (giving E B (cond c (Forward (length ns) (length v)) (NoRoom 1 (length v))) (written work ns)
+            → Left (giving E B (cond c (Forward (length ns) (length v)) (NoRoom 1 (length v))) (slotsOver work ns)
             (cond c (v ++ drop (length v) word) word))
         go true = (refl, file-of r (final-of d (refl, refl, refl, refl)))
         go false = (refl, refl, file-of r (inl (refl, final-of d (refl, refl))))

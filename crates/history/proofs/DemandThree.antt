@@ -10,7 +10,7 @@ use native.Mathlib.Nat.{add-zero, zero-add}
 use lib.ListN.{length, length-append}
 use Rattle.automaton.specs.declared.Automaton.{Automaton}
 use Rattle.automaton.specs.Automata.{one}
-use Rattle.automaton.proofs.Tests.{clash}
+use Rattle.automaton.proofs.Booleans.{clash}
 use Rattle.format.proofs.FileLaws.{read-same}
 use Rattle.answers.specs.Checks.{First, None}
 use Rattle.answers.proofs.ChecksLaws.{none-first}

@@ -10,7 +10,7 @@ use lib.Dec.{leb}
 use lib.ListN.{length, getD, drop, drop-of-length-le}
 use lib.Seq.{drop-cons}
 use Rattle.automaton.specs.Automata.{maxStates, InRange, inRange}
-use Rattle.automaton.proofs.Tests.{is-true, T-true, clash}
+use Rattle.automaton.proofs.Booleans.{is-true, T-true, clash}
 use Rattle.automaton.proofs.InRange.{in-range-iff}
 use Rattle.automaton.specs.declared.Automaton.{Automaton}
 use Rattle.deadstates.specs.DeadEnds.{hasDead}

@@ -9,7 +9,7 @@ use lib.Dec.{T, T-not, not-T, eqb, leb, ltb, eqb→eq, eqb-refl, ltb→lt, lt→
 use lib.ListN.{length}
 use Rattle.automaton.specs.declared.Automaton.{Automaton}
 use Rattle.automaton.specs.Automata.{maxStates, transitionCount, inRange}
-use Rattle.automaton.proofs.Tests.{or-cases, or-left, or-right, and-both, both-and, is-true, T-true}
+use Rattle.automaton.proofs.Booleans.{or-cases, or-left, or-right, and-both, both-and, is-true, T-true}
 use Rattle.automaton.proofs.InRange.{in-range-iff}
 use Rattle.deadstates.specs.DeadEnds.{hasDead}
 use Rattle.deadstates.proofs.DeadRight.{has-dead-right}

@@ -11,7 +11,7 @@ use borrow.Author.Tests.{ltb-true, ltb-false, leb-true, leb-false, eqb-true, eqb
 use lib.Dec.{T, T-not, not-T, eqb→eq, eqb, leb, ltb}
 use lib.ListN.{length, drop}
 use Rattle.automaton.specs.declared.Automaton.{Automaton}
-use Rattle.automaton.proofs.Tests.{or-cases, or-left, or-right, is-true, clash}
+use Rattle.automaton.proofs.Booleans.{or-cases, or-left, or-right, is-true, clash}
 use Rattle.format.specs.File.{holds, readFile}
 use Rattle.format.proofs.FileLaws.{read-not-both}
 use Rattle.deadstates.specs.DeadEnds.{hasDead}

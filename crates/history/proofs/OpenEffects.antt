@@ -8,7 +8,7 @@ use Prim.Native.Nat.{ℕ}
 use native.Mathlib.Omega.{arith}
 use Rattle.automaton.specs.declared.Automaton.{Automaton}
 use Rattle.runs.specs.DeadStates.{Dead}
-use Rattle.automaton.proofs.Tests.{T-true, not-T-false, clash}
+use Rattle.automaton.proofs.Booleans.{T-true, not-T-false, clash}
 use Rattle.format.proofs.FileLaws.{read-same, read-not-both}
 use Rattle.answers.specs.Checks.{First}
 use Rattle.answers.proofs.FileRows.{refused-read}

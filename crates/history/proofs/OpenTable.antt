@@ -4,7 +4,7 @@ use mathlib.Core.Logic.{inl, _↔_}
 use mathlib.Core.List.{List}
 use Prim.Native.Nat.{ℕ}
 use lib.ListN.{drop}
-use Rattle.automaton.proofs.Tests.{clash}
+use Rattle.automaton.proofs.Booleans.{clash}
 use Rattle.format.specs.File.{readFile}
 use Rattle.format.proofs.FileLaws.{read-not-both}
 use Rattle.deadstates.specs.DeadEnds.{hasDead}

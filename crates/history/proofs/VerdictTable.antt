@@ -7,7 +7,7 @@ use mathlib.Core.List.{List}
 use Prim.Native.Nat.{ℕ}
 use borrow.Author.Tests.{not-true, not-false}
 use lib.ListN.{drop}
-use Rattle.automaton.proofs.Tests.{clash}
+use Rattle.automaton.proofs.Booleans.{clash}
 use Rattle.lassos.specs.Verdict.{accepted}
 use Rattle.lassos.proofs.VerdictTheorem.{verdict-decides-acceptance}
 use Rattle.answers.specs.Checks.{First}

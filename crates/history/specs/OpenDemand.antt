@@ -25,9 +25,9 @@ OpenListed (Refused n) = OpenRefusal n
 
 module _ (E : Entry) (f : List ℕ) where
   -- the entry after an answer
-  abbrev pub OpenLeaves : OpenAnswer → Entry → Type 0
-  OpenLeaves Opened E' = FileHolds f (λ A. E' ≡ firstEdition A)
-  OpenLeaves (Refused n) E' = E' ≡ E
+  abbrev pub AfterOpen : OpenAnswer → Entry → Type 0
+  AfterOpen Opened E' = FileHolds f (λ A. E' ≡ firstEdition A)
+  AfterOpen (Refused n) E' = E' ≡ E
 
   pub record OpenDemand1 : Type 0 where
     -- the first row of the table whose condition holds gives the answer
@@ -35,4 +35,4 @@ module _ (E : Entry) (f : List ℕ) where
     -- its rows 1-5 in the table's terms, and the automaton of a file that is read
     pub reads : ReadsAs f
     pub occurs : OpenListed (openOf E f .answer)
-    pub leaves : OpenLeaves (openOf E f .answer) (openOf E f .entry)
+    pub leaves : AfterOpen (openOf E f .answer) (openOf E f .entry)

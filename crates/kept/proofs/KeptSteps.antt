@@ -18,7 +18,7 @@ use Rattle.slots.specs.Bytes.{vertexAt}
 use Rattle.classes.specs.Classes.{countersAt}
 use Rattle.classes.proofs.Leaders.{class-later}
 use Rattle.classes.proofs.Appended.{class-same}
-use Rattle.kept.specs.Kept.{lines, lineLength, keptAfter, afterSide, KeptStep, Kept}
+use Rattle.kept.specs.Kept.{lines, lineLength, keptAfter, afterSide, KeptStep, KeptLines}
 
 -- places that are the same say the same
 step-same : (tops m : List ℕ) (states : ℕ) (work : List ℕ) (n : ℕ) (kept kept′ : List ℕ) (at a : ℕ) (f : List ℕ)
@@ -28,7 +28,7 @@ step-same tops m states work n kept kept′ at a f same S y s l e = S y s l (sym
 
 -- no class has a line
 pub kept-begin : (tops m : List ℕ) (states : ℕ) (work : List ℕ) (n : ℕ)
-    → Kept tops m states work n (replicate lines 0) (replicate (lines * lineLength) 0)
+    → KeptLines tops m states work n (replicate lines 0) (replicate (lines * lineLength) 0)
 kept-begin tops m states work n =
     record {
       owners-long = length-replicate {A = ℕ} lines 0;
@@ -36,7 +36,7 @@ kept-begin tops m states work n =
       owned = λ l k h e. absurd (omega (arith, getD-replicate {A = ℕ} lines l 0 0 h));
     }
 
-module _ (tops m : List ℕ) (states : ℕ) (work : List ℕ) (n : ℕ) (owners kept : List ℕ) (K : Kept tops m states work n owners kept) where
+module _ (tops m : List ℕ) (states : ℕ) (work : List ℕ) (n : ℕ) (owners kept : List ℕ) (K : KeptLines tops m states work n owners kept) where
   -- the class of slot k takes line L
   module _ (k : ℕ) (inside : k < n) (L : ℕ) (below : L < lines) where
     abbrev cleared : List ℕ
@@ -73,7 +73,7 @@ module _ (tops m : List ℕ) (states : ℕ) (work : List ℕ) (n : ℕ) (owners 
     owner-after : getD (set owners L (suc k)) L 0 ≡ suc k
     owner-after = getD-set-same owners L (suc k) 0 (omega (arith, K .owners-long))
 
-    line-taken : (b : Bool) → eqb (getD owners L 0) (suc k) ≡ b → Kept tops m states work n (set owners L (suc k)) (cond b kept cleared)
+    line-taken : (b : Bool) → eqb (getD owners L 0) (suc k) ≡ b → KeptLines tops m states work n (set owners L (suc k)) (cond b kept cleared)
     line-taken b e =
         record {
           owners-long = length-set owners L (suc k) ∙ K .owners-long;
@@ -103,7 +103,7 @@ module _ (tops m : List ℕ) (states : ℕ) (work : List ℕ) (n : ℕ) (owners 
 
   -- after the class of slot k has taken its line
   module _ (k : ℕ) (inside : k < n) where
-    pub kept-line : Kept tops m states work n (set owners (suc k % lines) (suc k)) (keptAfter owners kept (suc k))
+    pub kept-line : KeptLines tops m states work n (set owners (suc k % lines) (suc k)) (keptAfter owners kept (suc k))
     kept-line = line-taken k inside (suc k % lines) (omega arith) (eqb (getD owners (suc k % lines) 0) (suc k)) refl
 
     pub line-owner : getD (set owners (suc k % lines) (suc k)) (suc k % lines) 0 ≡ suc k
@@ -117,7 +117,7 @@ module _ (tops m : List ℕ) (states : ℕ) (work : List ℕ) (n : ℕ) (owners 
   pub kept-step : (kept′ : List ℕ) (l a k : ℕ) → length kept′ ≡ length kept → l < lines → a < maxLetters → getD owners l 0 ≡ suc k
       → KeptStep tops m states work n kept′ (l * lineLength + a * 2) a (countersAt work k)
       → ((i : ℕ) → i ≢ l * lineLength + a * 2 → i ≢ l * lineLength + a * 2 + 1 → getD kept′ i 0 ≡ getD kept i 0)
-      → Kept tops m states work n owners kept′
+      → KeptLines tops m states work n owners kept′
   kept-step kept′ l a k e h i o S others =
       record {
         owners-long = K .owners-long;
@@ -158,7 +158,7 @@ module _ (tops m : List ℕ) (states : ℕ) (work work′ : List ℕ) (n n′ : 
       let g = afterSide tops m states a f y in
       class-later work′ g n n′ s more (class-same work work′ n (vertexAt work′ n) same refl g n (omega arith) ∙ S y s l e)
 
-  pub kept-grows : (owners : List ℕ) → Kept tops m states work n owners kept → Kept tops m states work′ n′ owners kept
+  pub kept-grows : (owners : List ℕ) → KeptLines tops m states work n owners kept → KeptLines tops m states work′ n′ owners kept
   kept-grows owners K =
       record {
         owners-long = K .owners-long;

@@ -5,7 +5,7 @@
 --   keptAfter                the places after the line of a class is cleared, unless it is that class's already
 --   KeptStep                 what the two places from `at` on may say of the step on letter a from the counters f: a class that is not 0 is the
 --                            class of the counters after the step, among the first n slots
---   Kept                     the same of each line and letter: the line's owner is a class, and f are its counters
+--   KeptLines                the same of each line and letter: the line's owner is a class, and f are its counters
 -- Shown by `kept-line`, `kept-step` and `kept-grows`. Assumes nothing.
 use mathlib.Core.Path.{_≡_}
 use mathlib.Core.Bool.{cond}
@@ -37,7 +37,7 @@ module _ (tops m : List ℕ) (states : ℕ) (work : List ℕ) (n : ℕ) where
   KeptStep kept at a f =
       (y s : ℕ) → y < 2 → getD kept (at + y) 0 ≡ suc s → classOf work (afterSide tops m states a f y) n ≡ suc s
 
-  pub record Kept (owners kept : List ℕ) : Type 0 where
+  pub record KeptLines (owners kept : List ℕ) : Type 0 where
     pub owners-long : length owners ≡ lines
     pub kept-long : length kept ≡ lines * lineLength
     pub owned : (l k : ℕ) → l < lines → getD owners l 0 ≡ suc k

@@ -11,7 +11,7 @@ use borrow.Author.Tests.{eqb-true, eqb-false}
 use lib.Dec.{T, eqb}
 use lib.ListN.{length}
 use Rattle.automaton.specs.declared.Automaton.{Automaton}
-use Rattle.automaton.proofs.Tests.{clash, same-test, not-T-false}
+use Rattle.automaton.proofs.Booleans.{clash, same-test, not-T-false}
 use Rattle.runs.specs.Lassos.{Accepted}
 use Rattle.format.specs.File.{holds, readFile}
 use Rattle.format.proofs.FileLaws.{file-whole}
@@ -50,11 +50,11 @@ use Rattle.kernel.proofs.EntryCallLaws.{entry-open-bytes, entry-verdict
 -- The entry that is written.
 
 -- its arrays have their lengths, and it is open
-record Written (E : Entry) : Type 0 where
+record WellStored (E : Entry) : Type 0 where
   sized : Sized E
   filled-is : E .filled ≡ true
 
-file-written : (f : List ℕ) (A : Automaton) → readFile f ≡ holds A → (E : Entry) → E .held ≡ A → E .filled ≡ true → Written E
+file-written : (f : List ℕ) (A : Automaton) → readFile f ≡ holds A → (E : Entry) → E .held ≡ A → E .filled ≡ true → WellStored E
 file-written f A r E h o =
     let w = file-whole f A r in
     record {
@@ -68,12 +68,12 @@ file-written f A r E h o =
 
 module _ (E : Entry) (f : List ℕ) where
   abbrev OpenWritten : Vetted → Type 0
-  OpenWritten v = isOpened (opened E v .answer) ≡ true → Written (opened E v .entry)
+  OpenWritten v = isOpened (opened E v .answer) ≡ true → WellStored (opened E v .entry)
 
   not-opened : (n : ℕ) → OpenWritten (stopped n)
   not-opened n e = clash e refl
 
-  opened-written : isOpened (openOf E f .answer) ≡ true → Written (openOf E f .entry)
+  opened-written : isOpened (openOf E f .answer) ≡ true → WellStored (openOf E f .entry)
   unfolding openOf openChecks
   opened-written =
       by-test OpenWritten (malformed E) (stopped 9) _ (λ _. not-opened 9) λ _.
@@ -91,21 +91,21 @@ module _ (E : Entry) (f : List ℕ) where
       go (passed A) e = clash refl e
 
 module _ (E : Entry) (f : List ℕ) (b : ℕ) (work word : List ℕ) where
-  taken-written : isTaken (offerOf E f b work word .answer) ≡ true → Written (offerOf E f b work word .entry)
+  taken-written : isTaken (offerOf E f b work word .answer) ≡ true → WellStored (offerOf E f b work word .entry)
   taken-written =
-      by-offer E f b work word (λ o. isTaken (o .answer) ≡ true → Written (o .entry)) (λ n e. clash e refl)
+      by-offer E f b work word (λ o. isTaken (o .answer) ≡ true → WellStored (o .entry)) (λ n e. clash e refl)
       (λ B r i w back d k e. rw e (file-written f B r (nextEdition E B) refl refl))
 
 -- The bytes after a list of calls.
 
 -- t are the bytes s still, or those of an open entry; they describe E
-record Stored (s t : List ℕ) (E : Entry) : Type 0 where
+record Describes (s t : List ℕ) (E : Entry) : Type 0 where
   is-entry : isEntry t ≡ true
   describes : entryOf t ≡ E
   bytes : (t ≡ s) ⊎ ((entryOf t .filled ≡ true) × (t ≡ entryBytes (entryOf t)))
 
-stored-bytes : (s : List ℕ) (c : Bool) (E : Entry) → isEntry s ≡ true → (c ≡ true → Written E) → (c ≡ false → E ≡ entryOf s)
-    → Stored s (stored c E s) E
+stored-bytes : (s : List ℕ) (c : Bool) (E : Entry) → isEntry s ≡ true → (c ≡ true → WellStored E) → (c ≡ false → E ≡ entryOf s)
+    → Describes s (stored c E s) E
 stored-bytes s true E i w k =
     let x = w refl in
     let d = entry-of-bytes E (x .sized) in
@@ -126,15 +126,15 @@ entry-offer-number : (s f : List ℕ) (b : ℕ) (work word : List ℕ) → isEnt
 unfolding offerBytesNumber
 entry-offer-number s f b work word e = rw e refl
 
-call-stored : (s : List ℕ) → isEntry s ≡ true → (c : Call) → Stored s (callBytes s c) (callEntry (entryOf s) c)
+call-stored : (s : List ℕ) → isEntry s ≡ true → (c : Call) → Describes s (callBytes s c) (callEntry (entryOf s) c)
 unfolding callBytes callEntry
 call-stored s i (openCall f) =
     let E = entryOf s in
-    subst (λ (t : List ℕ). Stored s t (openOf E f .entry)) (sym (entry-open-bytes s f i))
+    subst (λ (t : List ℕ). Describes s t (openOf E f .entry)) (sym (entry-open-bytes s f i))
     (stored-bytes s (isOpened (openOf E f .answer)) (openOf E f .entry) i (opened-written E f) (not-opened-keeps E f))
 call-stored s i (offerCall f b work word) =
     let E = entryOf s in
-    subst (λ (t : List ℕ). Stored s t (offerOf E f b work word .entry)) (sym (entry-offer-bytes s f b work word i))
+    subst (λ (t : List ℕ). Describes s t (offerOf E f b work word .entry)) (sym (entry-offer-bytes s f b work word i))
     (stored-bytes s (isTaken (offerOf E f b work word .answer)) (offerOf E f b work word .entry) i (taken-written E f b work word)
     (offer-keeps E f b work word))
 
@@ -146,14 +146,14 @@ join (inr e) (inl d) =
     inr (subst (λ (x : List ℕ). (entryOf x .filled ≡ true) × (x ≡ entryBytes (entryOf x))) (sym d) e)
 join e (inr d) = inr d
 
-after : (cs : List Call) (s : List ℕ) → isEntry s ≡ true → Stored s (bytesAfter s cs) (entryAfter (entryOf s) cs)
+after : (cs : List Call) (s : List ℕ) → isEntry s ≡ true → Describes s (bytesAfter s cs) (entryAfter (entryOf s) cs)
 unfolding bytesAfter entryAfter
 after [] s i = record { is-entry = i; describes = refl; bytes = inl refl }
 after (c ∷ cs) s i = go (λ t j. after cs t j) (call-stored s i c)
   where
-    go : ((t : List ℕ) → isEntry t ≡ true → Stored t (bytesAfter t cs) (entryAfter (entryOf t) cs))
-        → Stored s (callBytes s c) (callEntry (entryOf s) c)
-        → Stored s (bytesAfter (callBytes s c) cs) (entryAfter (callEntry (entryOf s) c) cs)
+    go : ((t : List ℕ) → isEntry t ≡ true → Describes t (bytesAfter t cs) (entryAfter (entryOf t) cs))
+        → Describes s (callBytes s c) (callEntry (entryOf s) c)
+        → Describes s (bytesAfter (callBytes s c) cs) (entryAfter (callEntry (entryOf s) c) cs)
     go rest x =
         let r = rest (callBytes s c) (x .is-entry) in
         record {
@@ -248,7 +248,7 @@ kind-taken S room (NoRoom i len) h = (λ e. absurd (omega (arith, e)), λ d. cla
 -- The claim.
 
 module _ (s : List ℕ) (i : isEntry s ≡ true) (vacant : entryOf s .filled ≡ false) where
-  told-bytes : (t : List ℕ) (E : Entry) (es : List Automaton) → E ≡ accounted (entryOf s) es → Stored s t E → t ≡ bytesOf s es
+  told-bytes : (t : List ℕ) (E : Entry) (es : List Automaton) → E ≡ accounted (entryOf s) es → Describes s t E → t ≡ bytesOf s es
   told-bytes t E [] e x = go (x .bytes)
     where
       go : (t ≡ s) ⊎ ((entryOf t .filled ≡ true) × (t ≡ entryBytes (entryOf t))) → t ≡ s
@@ -261,7 +261,7 @@ module _ (s : List ℕ) (i : isEntry s ≡ true) (vacant : entryOf s .filled ≡
           clash (ap (λ (F : Entry). F .filled) (x .describes ∙ e)) (ap (λ (l : List ℕ). entryOf l .filled) d ∙ vacant)
       go (inr d) = d .1 ∙ ap entryBytes (x .describes ∙ e)
 
-  same-verdicts : (t : List ℕ) (E : Entry) (n : ℕ) (es : List Automaton) → E ≡ accounted (entryOf s) es → Stored s t E
+  same-verdicts : (t : List ℕ) (E : Entry) (n : ℕ) (es : List Automaton) → E ≡ accounted (entryOf s) es → Describes s t E
       → (E .filled ≡ true → WellFormed E) → KeptIf E n es → First es → SameVerdicts t es
   same-verdicts t E n [] e x w k g = tt
   same-verdicts t E n (A ∷ es) e x w k g = λ u v.

@@ -9,7 +9,7 @@ use lib.Dec.{eqb, eqb→eq}
 use lib.ListN.{length, getD}
 use Rattle.automaton.specs.declared.Automaton.{Automaton}
 use Rattle.automaton.specs.Automata.{InRange}
-use Rattle.automaton.proofs.Tests.{and-both, is-true}
+use Rattle.automaton.proofs.Booleans.{and-both, is-true}
 use Rattle.format.specs.File.{readFile}
 use Rattle.format.proofs.FileLaws.{file-in-range}
 use Rattle.deadstates.specs.DeadEnds.{hasDead}

@@ -12,7 +12,7 @@ use Rattle.automaton.specs.Automata.{accepts, transition}
 use Rattle.runs.specs.Runs.{Run, here, step}
 use Rattle.runs.specs.Lassos.{repeated, Meets}
 use Rattle.relations.specs.Closure.{related, closure, reaches}
-use Rattle.automaton.proofs.Tests.{or-cases, or-left, or-right, and-both, both-and}
+use Rattle.automaton.proofs.Booleans.{or-cases, or-left, or-right, and-both, both-and}
 use Rattle.automaton.proofs.Ranges.{some-at, some-below}
 use Rattle.automaton.proofs.Transitions.{transition-into}
 use Rattle.runs.proofs.Runs.{run-below}

@@ -10,7 +10,7 @@ use Rattle.automaton.specs.declared.Automaton.{Automaton}
 use Rattle.automaton.specs.Ranges.{some, table}
 use Rattle.automaton.specs.Automata.{transition}
 use Rattle.runs.specs.Runs.{Run, here, step}
-use Rattle.automaton.proofs.Tests.{and-both, both-and}
+use Rattle.automaton.proofs.Booleans.{and-both, both-and}
 use Rattle.automaton.proofs.Ranges.{table-at, some-at, some-below}
 use Rattle.automaton.proofs.Transitions.{transition-from, transition-into}
 use Rattle.relations.proofs.Closure.{table-below}

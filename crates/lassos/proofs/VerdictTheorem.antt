@@ -13,7 +13,7 @@ use Rattle.automaton.specs.Ranges.{some}
 use Rattle.runs.specs.Runs.{Run, here, step}
 use Rattle.runs.specs.Lassos.{repeated, Meets, Accepted}
 use Rattle.relations.specs.Closure.{related, closure, reaches}
-use Rattle.automaton.proofs.Tests.{and-both, both-and}
+use Rattle.automaton.proofs.Booleans.{and-both, both-and}
 use Rattle.automaton.proofs.Ranges.{some-at, some-below}
 use Rattle.runs.proofs.Runs.{run-below}
 use Rattle.runs.proofs.LassoRuns.{Via, Visit, via-append, visit-append, via-split, visit-split, accepted-of, accepted-visit}

@@ -13,7 +13,7 @@ use lib.ListN.{length, getD, List·getD-eq-default}
 use borrow.Author.Tests.{ltb-true, ltb-false}
 use Rattle.automaton.specs.Ranges.{table}
 use Rattle.relations.specs.Closure.{related, relation, through, rounds, closure}
-use Rattle.automaton.proofs.Tests.{or-cases, or-left, or-right, and-both, both-and}
+use Rattle.automaton.proofs.Booleans.{or-cases, or-left, or-right, and-both, both-and}
 use Rattle.automaton.proofs.Ranges.{table-at, length-table}
 
 -- Tables of tests.

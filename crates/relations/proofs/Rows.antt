@@ -19,7 +19,7 @@ use Rattle.automaton.specs.Ranges.{some, table}
 use Rattle.automaton.specs.Sets.{bit, withBit, member}
 use Rattle.relations.specs.Closure.{related, relation, through, rounds, closure, rowHas}
 use Rattle.relations.specs.Rows.{withRow, changedRows, diagonalRows, roundRows, roundsRows, closedRows}
-use Rattle.automaton.proofs.Tests.{is-true, T-true, not-T-false, same-test, clash}
+use Rattle.automaton.proofs.Booleans.{is-true, T-true, not-T-false, same-test, clash}
 use Rattle.automaton.proofs.Ranges.{some-at, some-below, table-at, length-table}
 use Rattle.automaton.proofs.Bits.{bit-zero, bit-or, bit-with}
 use Rattle.automaton.proofs.EqualAutomata.{same-bits}
@@ -319,7 +319,7 @@ module _ {P : ℕ → ℕ → Type 0} where
 -- Rows changed: the list is known by its rows, and its rows by the list.
 
 -- only the n rows from place i on may differ
-pub record Kept (i n : ℕ) (rows rows′ : List ℕ) : Type 0 where
+pub record SameElsewhere (i n : ℕ) (rows rows′ : List ℕ) : Type 0 where
   pub before : (j : ℕ) → j < i → getD rows′ j 0 ≡ getD rows j 0
   pub after : (j : ℕ) → i + n ≤ j → getD rows′ j 0 ≡ getD rows j 0
 
@@ -360,10 +360,10 @@ module _ (i n : ℕ) (f : ℕ → ℕ) (rows : List ℕ) (fits : i + n ≤ lengt
       ∙ getD-drop (i + n) rows (j - (i + n)) 0
       ∙ ap (λ (k : ℕ). getD rows k 0) e
 
-  pub changed-kept : Kept i n rows (changedRows i n f rows)
+  pub changed-kept : SameElsewhere i n rows (changedRows i n f rows)
   changed-kept = record { before = changed-before; after = changed-after }
 
-  pub rows-changed : (rows′ : List ℕ) → length rows′ ≡ length rows → Kept i n rows rows′ → ((j : ℕ) → j < n → getD rows′ (i + j) 0 ≡ f j)
+  pub rows-changed : (rows′ : List ℕ) → length rows′ ≡ length rows → SameElsewhere i n rows rows′ → ((j : ℕ) → j < n → getD rows′ (i + j) 0 ≡ f j)
       → rows′ ≡ changedRows i n f rows
   rows-changed rows′ e k made = ext-getD 0 rows′ (changedRows i n f rows) (e ∙ sym changed-length) at
     where
@@ -399,7 +399,7 @@ module _ (i n : ℕ) (f : ℕ → ℕ) (rows : List ℕ) where
       long : length (changedRows i n f rows) ≡ length rows
       long = changed-length i n f rows (omega arith)
 
-      kept : Kept i n rows (changedRows i n f rows)
+      kept : SameElsewhere i n rows (changedRows i n f rows)
       kept = changed-kept i n f rows (omega arith)
 
       other : (j : ℕ) → (j ≡ i + n → ⊥) → getD (set (changedRows i n f rows) (i + n) w) j 0 ≡ getD (changedRows i n f rows) j 0
@@ -432,10 +432,10 @@ module _ (i n : ℕ) (f : ℕ → ℕ) (rows : List ℕ) where
       long : length first ≡ length rows
       long = changed-length i n f rows (omega arith)
 
-      kept : Kept i n rows first
+      kept : SameElsewhere i n rows first
       kept = changed-kept i n f rows (omega arith)
 
-      later : Kept (i + n) m first (changedRows (i + n) m g first)
+      later : SameElsewhere (i + n) m first (changedRows (i + n) m g first)
       later = changed-kept (i + n) m g first (omega (arith, long))
 
       go : (j : ℕ) → j < n + m → (c : Bool) → ltb j n ≡ c → getD (changedRows (i + n) m g first) (i + j) 0 ≡ f j

@@ -1,9 +1,9 @@
 // Sets of states as words of 32 bits, state q at bit q, and relations on the states as rows of such words. A promise on the states below 32
 // is one on every bit of a word.
 ghost use mathlib.Core.Path.{_≡_};
-ghost use mathlib.Core.Bool.{_&&_, _||_, not};
+ghost use mathlib.Core.Bool.{_&&_, _||_};
 ghost use mathlib.Core.List.{[], _∷_};
-ghost use Prim.Native.Nat.{ℕ, _+_, _-_, _<_, _≤_};
+ghost use Prim.Native.Nat.{ℕ, _<_, _≤_};
 ghost use lib.Dec.{eqb};
 ghost use lib.ListN.{length};
 ghost use Rattle.automaton.specs.Ranges.{some};
@@ -77,21 +77,6 @@ pub fn meets(left: u32, right: u32) -> bool
     ensures { λ r. ⌜ r ≡ some (λ q. bit left q && bit right q) 32 0 ⌝ }
 {
     left & right != 0
-}
-
-// Whether the first set has a state that the second lacks.
-pub fn exceeds(left: u32, right: u32) -> bool
-    ensures { λ r. ⌜ r ≡ some (λ q. bit left q && not (bit right q)) 32 0 ⌝ }
-{
-    left & right != left
-}
-
-// Whether the set has a state above q.
-pub fn has_above(set: u32, q: usize) -> bool
-    requires { ⌜ q < 32 ⌝ }
-    ensures { λ r. ⌜ r ≡ some (bit set) (32 - (q + 1)) (q + 1) ⌝ }
-{
-    set >> q > 1
 }
 
 // The set, with the members of the row besides where `from` has state p.

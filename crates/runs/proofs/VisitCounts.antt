@@ -12,7 +12,7 @@ use lib.ListN.{length}
 use Rattle.automaton.specs.declared.Automaton.{Automaton}
 use Rattle.automaton.specs.Automata.{accepts}
 use Rattle.runs.specs.Lassos.{repeated, Meets}
-use Rattle.automaton.proofs.Tests.{is-true, is-false}
+use Rattle.automaton.proofs.Booleans.{is-true, is-false}
 use Rattle.runs.proofs.LagSteps.{Stretch, stop, take, pass, Lag, start, skip}
 
 -- one more where the test passes

@@ -6,7 +6,7 @@ use Prim.Native.Nat.{ℕ, zero, suc, _<_}
 use native.Mathlib.Omega.{arith}
 use lib.Dec.{T, eqb, eqb→eq, eqb-refl}
 use lib.ListN.{length, getD}
-use Rattle.automaton.proofs.Tests.{and-both, both-and}
+use Rattle.automaton.proofs.Booleans.{and-both, both-and}
 use Rattle.slots.specs.declared.Vertex.{Vertex}
 use Rattle.slots.specs.Slots.{sameList, sameVertex, allZero}
 

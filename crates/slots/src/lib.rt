@@ -18,9 +18,6 @@ pub const NO_LETTER: u8 = 255;
 
 pub const NO_PARENT: usize = 65535;
 
-// The number of hashes of vertices.
-const HASHES: usize = 4096;
-
 // A left state, and a counter for each right state that there can be.
 pub struct Vertex {
     pub left: u8,

@@ -16,7 +16,7 @@ use lib.Seq.{getD-take, take-set-le, take-suc-set}
 use Rattle.automaton.specs.Automata.{maxStates}
 use Rattle.automaton.specs.Ranges.{those, table, largest}
 use Rattle.automaton.proofs.Ranges.{those-has, table-at}
-use Rattle.automaton.proofs.Tests.{is-true}
+use Rattle.automaton.proofs.Booleans.{is-true}
 use Rattle.step.specs.Masks.{rowPlace}
 use Rattle.step.specs.Steps.{presentStates, placesAfter, PresentOf}
 use Rattle.step.proofs.Largest.{largest-more, largest-le, largest-bound}

@@ -17,7 +17,7 @@ use Rattle.automaton.specs.Members.{transitionIn}
 use Rattle.automaton.specs.Ranges.{some, table, largest}
 use Rattle.automaton.specs.Sets.{member}
 use Rattle.automaton.proofs.Ranges.{table-at, length-table}
-use Rattle.automaton.proofs.Tests.{same-test, and-both, both-and}
+use Rattle.automaton.proofs.Booleans.{same-test, and-both, both-and}
 use Rattle.automaton.proofs.Transitions.{transition-parts, parts-transition}
 use Rattle.relations.proofs.Rows.{some-same}
 use Rattle.graph.specs.LagGraph.{counter}

@@ -15,7 +15,7 @@ use Rattle.automaton.specs.Members.{transitionIn}
 use Rattle.automaton.specs.Ranges.{table}
 use Rattle.automaton.specs.Sets.{member}
 use Rattle.automaton.proofs.Ranges.{table-at}
-use Rattle.automaton.proofs.Tests.{not-T-false}
+use Rattle.automaton.proofs.Booleans.{not-T-false}
 use Rattle.relations.proofs.Rows.{table-same}
 use Rattle.slots.specs.declared.Vertex.{Vertex}
 use Rattle.graph.specs.LagGraph.{initialCounter, initialVertex, counter, stepped}

@@ -16,7 +16,7 @@ use borrow.Author.Tests.{ltb-true, ltb-false, lt-ltb, le-ltb}
 use Rattle.automaton.specs.Ranges.{some}
 use Rattle.automaton.specs.Sets.{bit}
 use Rattle.automaton.proofs.Bits.{bit-zero, bit-or}
-use Rattle.relations.proofs.Rows.{some-none, some-more, some-same, bit-low, bit-high, words-same, bit-with-row, Kept, changed-row, changed-kept, rows-changed}
+use Rattle.relations.proofs.Rows.{some-none, some-more, some-same, bit-low, bit-high, words-same, bit-with-row, SameElsewhere, changed-row, changed-kept, rows-changed}
 use Rattle.unions.specs.Unions.{chosen, unionOf, named, Choices, Unions, groupsWhere, groupsFor, doubled, filled}
 
 pub or-false : (b : Bool) → (b || false) ≡ b
@@ -41,7 +41,7 @@ some-append f n (suc m) =
 
 -- the n entries from place at on are followed by the same with the members of v besides
 record Doubled (table : List ℕ) (at n v : ℕ) (table′ : List ℕ) : Type 0 where
-  kept : Kept (at + n) n table table′
+  kept : SameElsewhere (at + n) n table table′
   made : (m : ℕ) → m < n → getD table′ (at + n + m) 0 ≡ bitOr (getD table (at + m) 0) v
 
 doubled-says : {table′ : List ℕ} (table : List ℕ) (at n v : ℕ) → at + n + n ≤ length table → table′ ≡ doubled table at n v
@@ -103,7 +103,7 @@ choices-double table table′ values at first k v same c d m q h = go (ltb m (2 
 choices-four : (t t₁ t₂ t₃ t₄ values : List ℕ) (at first : ℕ) → at < length t
     → Doubled (set t at 0) at 1 (getD values first 0) t₁ → Doubled t₁ at 2 (getD values (first + 1) 0) t₂
     → Doubled t₂ at 4 (getD values (first + 2) 0) t₃ → Doubled t₃ at 8 (getD values (first + 3) 0) t₄
-    → Choices t₄ at values first 4 × Kept at 16 t t₄
+    → Choices t₄ at values first 4 × SameElsewhere at 16 t t₄
 choices-four t t₁ t₂ t₃ t₄ values at first h d₁ d₂ d₃ d₄ =
     let c₀ = choices-begin (set t at 0) values at first (getD-set-same t at 0 0 h) in
     let c₁ = choices-double (set t at 0) t₁ values at first 0 _ (ap (λ (i : ℕ). getD values i 0) (sym (add-zero first))) c₀ d₁ in
@@ -130,8 +130,8 @@ union-chosen values first (suc k) m q =
     ∙ ap (λ (j : ℕ). chosen values first j m q) (add-one k)
 
 module _ (t t′ values : List ℕ) (at first groups : ℕ) (fits : at + groups * 16 ≤ length t) where
-  pub filled-unions : t′ ≡ filled t at values first groups → Unions t′ at values first groups × Kept at (groups * 16) t t′
-  filled-unions e = subst (λ (x : List ℕ). Unions x at values first groups × Kept at (groups * 16) t x) (sym e) (entries, changed-kept at (groups * 16) _ t fits)
+  pub filled-unions : t′ ≡ filled t at values first groups → Unions t′ at values first groups × SameElsewhere at (groups * 16) t t′
+  filled-unions e = subst (λ (x : List ℕ). Unions x at values first groups × SameElsewhere at (groups * 16) t x) (sym e) (entries, changed-kept at (groups * 16) _ t fits)
     where
       union : ℕ → ℕ
       union j = unionOf values (first + j / 16 * 4) 4 (j % 16)
@@ -147,7 +147,7 @@ module _ (t t′ values : List ℕ) (at first groups : ℕ) (fits : at + groups 
           ∙ ap₂ (λ (x y : ℕ). bit (unionOf values (first + x * 4) 4 y) q) d r
           ∙ union-chosen values (first + g * 4) 4 m q
 
-  pub unions-filled : length t′ ≡ length t → Unions t′ at values first groups × Kept at (groups * 16) t t′
+  pub unions-filled : length t′ ≡ length t → Unions t′ at values first groups × SameElsewhere at (groups * 16) t t′
       → t′ ≡ filled t at values first groups
   unions-filled e u = rows-changed at (groups * 16) _ t fits t′ e (u .1) (λ j h. words-same _ _ (λ q. at-entry j h q))
     where
@@ -185,11 +185,11 @@ four-filled t t₁ t₂ t₃ t₄ values at first h l₁ l₂ l₃ l₄ d₁ d�
 -- Groups filled one after another.
 
 module _ (values : List ℕ) (at first : ℕ) where
-  pub unions-begin : (t : List ℕ) → Unions t at values first 0 × Kept at (0 * 16) t t
+  pub unions-begin : (t : List ℕ) → Unions t at values first 0 × SameElsewhere at (0 * 16) t t
   unions-begin t = (λ g h. absurd (omega arith), record { before = λ i h. refl; after = λ i h. refl })
 
-  pub unions-go-on : (t t′ t″ : List ℕ) (g : ℕ) → at + g * 16 + 16 ≤ length t′ → Unions t′ at values first g × Kept at (g * 16) t t′
-      → t″ ≡ filled t′ (at + g * 16) values (first + g * 4) 1 → Unions t″ at values first (g + 1) × Kept at ((g + 1) * 16) t t″
+  pub unions-go-on : (t t′ t″ : List ℕ) (g : ℕ) → at + g * 16 + 16 ≤ length t′ → Unions t′ at values first g × SameElsewhere at (g * 16) t t′
+      → t″ ≡ filled t′ (at + g * 16) values (first + g * 4) 1 → Unions t″ at values first (g + 1) × SameElsewhere at ((g + 1) * 16) t t″
   unions-go-on t t′ t″ g fits u e = (
     λ j h. go j h (ltb j g) refl,
     record {
@@ -198,10 +198,10 @@ module _ (values : List ℕ) (at first : ℕ) where
     },
   )
     where
-      group : Unions t″ (at + g * 16) values (first + g * 4) 1 × Kept (at + g * 16) 16 t′ t″
+      group : Unions t″ (at + g * 16) values (first + g * 4) 1 × SameElsewhere (at + g * 16) 16 t′ t″
       group = filled-unions t′ t″ values (at + g * 16) (first + g * 4) 1 fits e
 
-      c : Choices t″ (at + g * 16) values (first + g * 4) 4 × Kept (at + g * 16) 16 t′ t″
+      c : Choices t″ (at + g * 16) values (first + g * 4) 4 × SameElsewhere (at + g * 16) 16 t′ t″
       c = (group-choices t″ values (at + g * 16) (first + g * 4) (group .0), group .1)
 
       go : (j : ℕ) → j < g + 1 → (b : Bool) → ltb j g ≡ b → Choices t″ (at + j * 16) values (first + j * 4) 4
@@ -215,7 +215,7 @@ module _ (values : List ℕ) (at first : ℕ) where
           subst (λ (x : ℕ). Choices t″ (at + x * 16) values (first + x * 4) 4) same (c .0)
 
   -- a table filled further on keeps its groups
-  pub unions-kept : (t t′ : List ℕ) (groups at′ n : ℕ) → at + groups * 16 ≤ at′ → Kept at′ n t t′ → Unions t at values first groups
+  pub unions-kept : (t t′ : List ℕ) (groups at′ n : ℕ) → at + groups * 16 ≤ at′ → SameElsewhere at′ n t t′ → Unions t at values first groups
       → Unions t′ at values first groups
   unions-kept t t′ groups at′ n h k u g hg m q l =
       let l₁ : m < 16 = l in

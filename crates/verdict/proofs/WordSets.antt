@@ -20,7 +20,7 @@ use Rattle.relations.specs.Closure.{related, rowHas}
 use Rattle.lassos.specs.Verdict.{inSet, onLetter, onWord, loopRuns, loopVisits}
 use Rattle.unions.specs.Unions.{chosen, groupsFor}
 use Rattle.verdict.specs.Words.{setOf, HeldRows, HeldAccepting, Met, PairsOf}
-use Rattle.automaton.proofs.Tests.{and-both, both-and, same-test, not-T-false}
+use Rattle.automaton.proofs.Booleans.{and-both, both-and, same-test, not-T-false}
 use Rattle.automaton.proofs.Bits.{bit-zero}
 use Rattle.automaton.proofs.Ranges.{table-at, some-below}
 use Rattle.automaton.proofs.Transitions.{transition-parts, transition-from, transition-on, transition-into}

@@ -14,7 +14,7 @@ use Rattle.automaton.specs.Automata.{accepts}
 use Rattle.relations.specs.Closure.{related, relation, closure, reaches, rowHas}
 use Rattle.lassos.specs.Verdict.{inSet, only, onWord, loopRuns, loopVisits, accepted}
 use Rattle.verdict.specs.Words.{setOf, HeldAccepting, returnsFrom}
-use Rattle.automaton.proofs.Tests.{and-both, both-and, same-test}
+use Rattle.automaton.proofs.Booleans.{and-both, both-and, same-test}
 use Rattle.automaton.proofs.Ranges.{table-at, some-at, some-below}
 use Rattle.automaton.proofs.Bits.{bit-zero, bit-with}
 use Rattle.relations.proofs.Closure.{related-relation}

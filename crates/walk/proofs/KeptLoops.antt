@@ -7,7 +7,7 @@ use Prim.Native.Nat.{ℕ, zero, suc, _+_, _*_, _%_, _≤_, _<_}
 use native.Mathlib.Omega.{arith}
 use lib.ListN.{length, getD, set}
 use Rattle.automaton.specs.Automata.{maxLetters}
-use Rattle.automaton.proofs.Tests.{clash}
+use Rattle.automaton.proofs.Booleans.{clash}
 use Rattle.slots.specs.declared.Vertex.{Vertex}
 use Rattle.classes.specs.Classes.{countersAt, classOf, classAt}
 use Rattle.classes.proofs.Leaders.{lists-equal, class-none, class-some, class-le}
@@ -16,7 +16,7 @@ use Rattle.discovery.specs.declared.Walked.{Walked}
 use Rattle.discovery.specs.declared.Walked.the-variants.{Going, Ended, Full}
 use Rattle.discovery.specs.Representation.{Ready, Grows}
 use Rattle.discovery.proofs.FoldLoops.{Stops}
-use Rattle.kept.specs.Kept.{lines, lineLength, keptAfter, KeptStep, Kept}
+use Rattle.kept.specs.Kept.{lines, lineLength, keptAfter, KeptStep, KeptLines}
 use Rattle.kept.proofs.KeptSteps.{kept-line, line-owner, kept-step, kept-grows}
 use Rattle.walk.specs.Ready.{ReadyNext}
 
@@ -43,19 +43,19 @@ module _ (work heads nexts listed : List ℕ) (n : ℕ) (R : Ready work heads ne
   pub class-small : class ≤ 4096
   class-small = let r = R .room in omega (arith, class-is, class-le work (countersAt work p) n)
 
-  pub line-begins : (tops m : List ℕ) (states line : ℕ) (owners kept owners′ kept′ : List ℕ) → Kept tops m states work n owners kept
+  pub line-begins : (tops m : List ℕ) (states line : ℕ) (owners kept owners′ kept′ : List ℕ) → KeptLines tops m states work n owners kept
       → line ≡ class % lines * lineLength → owners′ ≡ set owners (class % lines) class → kept′ ≡ keptAfter owners kept class
-      → Kept tops m states work n owners′ kept′ × Owns work n class line (countersAt work p) owners′
+      → KeptLines tops m states work n owners′ kept′ × Owns work n class line (countersAt work p) owners′
   line-begins tops m states line owners kept owners′ kept′ K e f g = go class class-is e f g
     where
       go : (x : ℕ) → x ≡ classOf work (countersAt work p) n → line ≡ x % lines * lineLength → owners′ ≡ set owners (x % lines) x
-          → kept′ ≡ keptAfter owners kept x → Kept tops m states work n owners′ kept′ × Owns work n x line (countersAt work p) owners′
+          → kept′ ≡ keptAfter owners kept x → KeptLines tops m states work n owners′ kept′ × Owns work n x line (countersAt work p) owners′
       go zero q e f g =
           clash (lists-equal (countersAt work p) (countersAt work p) refl) (class-none work (countersAt work p) n (sym q) p inside)
       go (suc k) q e f g =
           let s = class-some work (countersAt work p) n k (sym q) in (
-            subst (λ (x : List ℕ). Kept tops m states work n x kept′) (sym f)
-                (subst (λ (x : List ℕ). Kept tops m states work n (set owners (suc k % lines) (suc k)) x) (sym g)
+            subst (λ (x : List ℕ). KeptLines tops m states work n x kept′) (sym f)
+                (subst (λ (x : List ℕ). KeptLines tops m states work n (set owners (suc k % lines) (suc k)) x) (sym g)
                 (kept-line tops m states work n owners kept K k (s .0))),
             record {
               slot = k;
@@ -67,7 +67,7 @@ module _ (work heads nexts listed : List ℕ) (n : ℕ) (R : Ready work heads ne
           )
 
 module _ (tops m : List ℕ) (states : ℕ) (work : List ℕ) (n class line : ℕ) (counters owners kept : List ℕ)
-    (K : Kept tops m states work n owners kept) (O : Owns work n class line counters owners) (letter : ℕ) (few : letter < maxLetters) where
+    (K : KeptLines tops m states work n owners kept) (O : Owns work n class line counters owners) (letter : ℕ) (few : letter < maxLetters) where
   pub line-step : KeptStep tops m states work n kept (line + letter * 2) letter counters
   line-step =
       subst (λ (i : ℕ). KeptStep tops m states work n kept (i + letter * 2) letter counters) (sym (O .from))
@@ -80,7 +80,7 @@ module _ (tops m : List ℕ) (states : ℕ) (work : List ℕ) (n class line : �
   pub line-kept : (kept′ : List ℕ) → length kept′ ≡ length kept → KeptStep tops m states work n kept′ (line + letter * 2) letter counters
       → ((i : ℕ) → i ≢ line + letter * 2 → i ≢ line + letter * 2 + 1 → getD kept′ i 0 ≡ getD kept i 0)
       → (work′ : List ℕ) (n′ : ℕ) → Grows work n work′ (Going n′)
-      → Kept tops m states work′ n′ owners kept′ × Owns work′ n′ class line counters owners
+      → KeptLines tops m states work′ n′ owners kept′ × Owns work′ n′ class line counters owners
   line-kept kept′ e S others work′ n′ G =
       let more = G .no-fewer in
       let d = O .below in (

@@ -17,7 +17,7 @@ use Rattle.automaton.specs.Automata.{maxStates, maxLetters, one, transitionBit,
 use Rattle.automaton.specs.Members.{transitionIn}
 use Rattle.automaton.specs.Ranges.{those}
 use Rattle.automaton.specs.Sets.{bit}
-use Rattle.automaton.proofs.Tests.{clash}
+use Rattle.automaton.proofs.Booleans.{clash}
 use Rattle.automaton.proofs.Ranges.{length-table}
 use Rattle.automaton.proofs.Bits.{bit-zero}
 use Rattle.automaton.proofs.Members.{those-same}

@@ -11,7 +11,7 @@ use Rattle.classes.specs.Classes.{listedIn}
 use Rattle.discovery.specs.declared.Walked.{Walked}
 use Rattle.discovery.specs.declared.Walked.the-variants.{Going, Ended, Full}
 use Rattle.discovery.specs.Representation.{Ready}
-use Rattle.kept.specs.Kept.{Kept}
+use Rattle.kept.specs.Kept.{KeptLines}
 
 abbrev pub TargetsLeft : List ℕ → ℕ → ℕ → ℕ → ℕ → ℕ → Type 0
 TargetsLeft listed c d w v x =
@@ -19,6 +19,6 @@ TargetsLeft listed c d w v x =
 
 abbrev pub ReadyNext : List ℕ → List ℕ → ℕ → Walked → List ℕ → List ℕ → List ℕ → List ℕ → List ℕ → List ℕ → Type 0
 ReadyNext tops m states (Going n) work heads nexts listed owners kept =
-    Ready work heads nexts listed n × Kept tops m states work n owners kept
+    Ready work heads nexts listed n × KeptLines tops m states work n owners kept
 ReadyNext tops m states (Ended i a p) work heads nexts listed owners kept = Unit {0}
 ReadyNext tops m states (Full n) work heads nexts listed owners kept = Unit {0}

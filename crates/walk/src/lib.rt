@@ -20,7 +20,7 @@ ghost use Rattle.step.specs.Steps.{PresentOf};
 ghost use Rattle.discovery.specs.Representation.{walkedOf, vertexOf, Becomes, Ready, ReadyAfter, Grows};
 ghost use Rattle.walk.specs.Rules.{RulesOf, finalWordIn};
 ghost use Rattle.walk.specs.Ready.{TargetsLeft, ReadyNext};
-ghost use Rattle.kept.specs.Kept.{Kept, KeptStep};
+ghost use Rattle.kept.specs.Kept.{KeptLines, KeptStep};
 use automaton::Head;
 use discovery::Sides;
 use discovery::Walked;
@@ -170,7 +170,7 @@ fn expand_letter(
     let otherclass = sides.otherclass;
     kept[at] = lowclass as u16;
     kept[at + 1] = otherclass as u16;
-    let left_out = targets_left(listed, lowclass, otherclass, low, other);
+    let unlisted = targets_left(listed, lowclass, otherclass, low, other);
     discovery::discover_targets(
         work,
         heads,
@@ -180,7 +180,7 @@ fn expand_letter(
         p,
         letter as u8,
         rules.accepting,
-        left_out,
+        unlisted,
         &lowered,
         &others,
         sides,
@@ -207,7 +207,7 @@ fn expand(
     requires { ⌜
         Ready (now work) (now heads) (now nexts) (now listed) n × (p < n) × (rules .letters ≤ maxLetters) × (rules .states ≤ maxStates)
         × (rowPlace (rules .states) (rules .letters) 0 ≤ length (now masks)) × (now table ≡ leastMembers)
-        × Kept (now tops) (now masks) (rules .states) (now work) n (now owners) (now kept)
+        × KeptLines (now tops) (now masks) (rules .states) (now work) n (now owners) (now kept)
         ⌝ }
     ensures represents { λ r. ⌜
         ((A B : Automaton) (b : ℕ) → RulesOf rules (now (tops .entry)) (now (lefts .entry)) (now (masks .entry)) A B b
@@ -281,7 +281,7 @@ fn expand_all(
         ⌝ }
 {
     let mut owners = [0u16; kept::LINES];
-    let mut places = [0u16; kept::LINES * kept::LINE_LENGTH];
+    let mut kept = [0u16; kept::LINES * kept::LINE_LENGTH];
     let mut count = n;
     let mut p: usize = 0;
     while p < count {
@@ -295,7 +295,7 @@ fn expand_all(
             nexts,
             listed,
             &mut owners,
-            &mut places,
+            &mut kept,
             count,
             p,
             table,
@@ -333,9 +333,9 @@ fn walk_from(
         (walkOf (wholeOf left (now (lefts .entry))) (wholeOf right (now (rights .entry))) bound (slotCount (length (now (work .entry)))))
         ⌝ }
 {
-    let mut heads = [0u16; 4096];
-    let mut nexts = [0u16; 4096];
-    let mut listed = [0u32; 4096];
+    let mut heads = [0u16; slots::MAX_SLOTS];
+    let mut nexts = [0u16; slots::MAX_SLOTS];
+    let mut listed = [0u32; slots::MAX_SLOTS];
     let counters = first.counters;
     let key = classes::key_of(&counters);
     classes::append(
@@ -345,8 +345,8 @@ fn walk_from(
         &mut listed,
         0,
         first,
-        255,
-        65535,
+        slots::NO_LETTER,
+        slots::NO_PARENT,
         key,
         0,
     );
@@ -425,7 +425,7 @@ pub fn walk(
     );
     let counters = first.counters;
     if classes::all_zero(&counters) {
-        return Walked::Ended(0, 255, 65535);
+        return Walked::Ended(0, slots::NO_LETTER, slots::NO_PARENT);
     }
     if slots::slot_count(work.len()) == 0 {
         return Walked::Full(0);

@@ -6,7 +6,7 @@ use Prim.Native.Nat.{ℕ, zero, suc}
 use borrow.Author.Needs.{needs}
 use borrow.Author.Tests.{eq-eqb}
 use lib.Dec.{eqb}
-use Rattle.automaton.proofs.Tests.{clash}
+use Rattle.automaton.proofs.Booleans.{clash}
 use Rattle.discovery.specs.Representation.{ClassKnown}
 use Rattle.discovery.proofs.class_now.Statement.{statement}
 use Rattle.discovery.proofs.class_now.Tie as tie

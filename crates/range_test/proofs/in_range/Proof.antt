@@ -8,7 +8,7 @@ use Rattle.automaton.specs.Ranges.{some}
 use Rattle.automaton.specs.Automata.{headerValues, strayState, strayTransition, stray, inRange}
 use Rattle.automaton.specs.Members.{strayMember, strayFrom}
 use Rattle.automaton.proofs.InRange.{header-values-iff}
-use Rattle.automaton.proofs.Tests.{is-true}
+use Rattle.automaton.proofs.Booleans.{is-true}
 use borrow.Author.Needs.{needs}
 use Rattle.range_test.proofs.in_range.Statement.{statement}
 use Rattle.range_test.proofs.in_range.Tie as tie

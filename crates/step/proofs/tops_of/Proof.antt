@@ -16,13 +16,13 @@ use Rattle.step.proofs.SteppedBytes.{table-is, table-more}
 use Rattle.step.proofs.tops_of.Statement.{statement}
 use Rattle.step.proofs.tops_of.Tie as tie
 
-record Written (s : List ℕ) (top : ℕ) (l : List ℕ) (r : ℕ) : Type 0 where
+record TopsBelow (s : List ℕ) (top : ℕ) (l : List ℕ) (r : ℕ) : Type 0 where
   long : length l ≡ maxStates
   done : (k : ℕ) → k < r → getD l k 0 ≡ cond (member s k) top 0
   rest : (k : ℕ) → r ≤ k → k < maxStates → getD l k 0 ≡ 0
 
-module _ (s : List ℕ) (top : ℕ) (l : List ℕ) (r : ℕ) (W : Written s top l r) (h : r < maxStates) where
-  raised-one : member s r ≡ true → Written s top (set l r top) (r + 1)
+module _ (s : List ℕ) (top : ℕ) (l : List ℕ) (r : ℕ) (W : TopsBelow s top l r) (h : r < maxStates) where
+  raised-one : member s r ≡ true → TopsBelow s top (set l r top) (r + 1)
   raised-one e =
       record {
         long = length-set l r top ∙ W .long;
@@ -30,7 +30,7 @@ module _ (s : List ℕ) (top : ℕ) (l : List ℕ) (r : ℕ) (W : Written s top 
         rest = λ k i j. getD-set-other l r k top 0 (λ d. absurd (omega arith)) ∙ W .rest k (omega arith) j;
       }
 
-  kept-one : member s r ≡ false → Written s top l (r + 1)
+  kept-one : member s r ≡ false → TopsBelow s top l (r + 1)
   kept-one e =
       record {
         long = W .long;
@@ -39,7 +39,7 @@ module _ (s : List ℕ) (top : ℕ) (l : List ℕ) (r : ℕ) (W : Written s top 
       }
 
 abbrev Inv-loop : tie.InvT-loop
-Inv-loop accepting top tops₀ r₀ tops r = (r ≤ maxStates) × Written accepting top tops r
+Inv-loop accepting top tops₀ r₀ tops r = (r ≤ maxStates) × TopsBelow accepting top tops r
 
 abbrev μ-loop : tie.MeasureT-loop
 μ-loop accepting top tops₀ r₀ tops r = maxStates - r
@@ -66,9 +66,9 @@ loop-again c =
     let y = c .before .accepts-in .ensures in (
       search needs,
       ⊎-elim
-          (λ w. subst (λ (x : List ℕ). Written (a .accepting .now) (a .top) x (l .r + 1)) (sym (w .1))
+          (λ w. subst (λ (x : List ℕ). TopsBelow (a .accepting .now) (a .top) x (l .r + 1)) (sym (w .1))
           (raised-one (a .accepting .now) (a .top) (l .tops) (l .r) (l .inv .1) (omega arith) (sym y ∙ w .0 .taken)))
-          (λ w. subst (λ (x : List ℕ). Written (a .accepting .now) (a .top) x (l .r + 1)) (sym (w .1))
+          (λ w. subst (λ (x : List ℕ). TopsBelow (a .accepting .now) (a .top) x (l .r + 1)) (sym (w .1))
           (kept-one (a .accepting .now) (a .top) (l .tops) (l .r) (l .inv .1) (omega arith) (sym y ∙ w .0 .left)))
           (c .if1 .came),
     )

@@ -4,14 +4,14 @@ use Prim.Native.Nat.{ℕ, _*_, _-_, _≤_}
 use native.Mathlib.Omega.{arith}
 use lib.ListN.{length}
 use Rattle.unions.specs.Unions.{Unions}
-use Rattle.relations.proofs.Rows.{Kept}
+use Rattle.relations.proofs.Rows.{SameElsewhere}
 use Rattle.unions.proofs.UnionTables.{unions-begin, unions-go-on, unions-filled}
 use Rattle.unions.proofs.fill.Statement.{statement}
 use Rattle.unions.proofs.fill.Tie as tie
 
 abbrev Inv-loop : tie.InvT-loop
 Inv-loop table₀ at values first groups g₀ table g =
-    (g ≤ groups) × (length table ≡ length table₀) × Unions table at values first g × Kept at (g * 16) table₀ table
+    (g ≤ groups) × (length table ≡ length table₀) × Unions table at values first g × SameElsewhere at (g * 16) table₀ table
 
 abbrev μ-loop : tie.MeasureT-loop
 μ-loop table₀ at values first groups g₀ table g = groups - g
@@ -61,7 +61,7 @@ returns c =
     let e : l .g ≡ a .groups = omega arith in
     unions-filled (a .table .now) (l .table) (a .values .now) (a .at) (a .first) (a .groups) (omega arith) (l .inv .1) (
       subst (λ (k : ℕ). Unions (l .table) (a .at) (a .values .now) (a .first) k) e (l .inv .2),
-      subst (λ (k : ℕ). Kept (a .at) (k * 16) (a .table .now) (l .table)) e (l .inv .3),
+      subst (λ (k : ℕ). SameElsewhere (a .at) (k * 16) (a .table .now) (l .table)) e (l .inv .3),
     )
 
 pub fill-spec : {M : Type 1} → statement M

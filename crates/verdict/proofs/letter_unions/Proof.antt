@@ -8,7 +8,7 @@ use native.Mathlib.Omega.{arith}
 use lib.Dec.{ltb}
 use lib.ListN.{length}
 use borrow.Author.Tests.{ltb-true, ltb-false}
-use Rattle.relations.proofs.Rows.{Kept}
+use Rattle.relations.proofs.Rows.{SameElsewhere}
 use Rattle.unions.specs.Unions.{Unions, filled}
 use Rattle.unions.proofs.UnionTables.{filled-unions, unions-kept, groups-enough}
 use Rattle.verdict.proofs.letter_unions.Statement.{statement}
@@ -23,7 +23,7 @@ one-more : (rows : List ℕ) (groups : ℕ) (tables tables′ : List ℕ) (a : �
     → LettersFilled rows groups tables′ (a + 1)
 one-more rows groups tables tables′ a few fits f e i h = go (ltb i a) refl
   where
-    u : Unions tables′ (a * 128) rows (a * 32) groups × Kept (a * 128) (groups * 16) tables tables′
+    u : Unions tables′ (a * 128) rows (a * 32) groups × SameElsewhere (a * 128) (groups * 16) tables tables′
     u = filled-unions tables tables′ rows (a * 128) (a * 32) groups fits e
 
     go : (b : Bool) → ltb i a ≡ b → Unions tables′ (i * 128) rows (i * 32) groups

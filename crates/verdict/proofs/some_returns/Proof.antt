@@ -9,7 +9,7 @@ use Rattle.automaton.specs.Ranges.{some}
 use Rattle.automaton.specs.Sets.{bit}
 use Rattle.relations.specs.Closure.{rowHas}
 use Rattle.verdict.specs.Words.{comesBack, returnsFrom}
-use Rattle.automaton.proofs.Tests.{is-true, T-true, not-T-false, clash}
+use Rattle.automaton.proofs.Booleans.{is-true, T-true, not-T-false, clash}
 use Rattle.automaton.proofs.Ranges.{some-at, some-below}
 use Rattle.relations.proofs.Rows.{some-same}
 use Rattle.verdict.proofs.some_returns.Statement.{statement}

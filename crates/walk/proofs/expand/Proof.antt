@@ -11,7 +11,7 @@ use Rattle.slots.specs.declared.Vertex.{Vertex}
 use Rattle.step.specs.Steps.{PresentOf}
 use Rattle.discovery.specs.Representation.{vertexOf, Ready}
 use Rattle.discovery.proofs.FoldLoops.{other-stops}
-use Rattle.kept.specs.Kept.{Kept}
+use Rattle.kept.specs.Kept.{KeptLines}
 use Rattle.walk.proofs.ExpandLoops.{LettersToGo, letters-start, letters-next, letters-stop, letters-end}
 use Rattle.walk.proofs.KeptLoops.{Owns, stops-ready, class-small, line-begins, line-step, place-fits, line-kept}
 use Rattle.walk.proofs.expand.Statement.{statement}
@@ -21,7 +21,7 @@ abbrev Inv-loop : tie.InvT-loop
 Inv-loop rules tops lefts masks work₀ heads₀ nexts₀ listed₀ owners kept₀ n p table letters class line counters present places left count₀ letter₀ work heads nexts listed kept count letter =
     (letters ≡ rules .letters) × (letter ≤ letters) × (length work ≡ length work₀) × (length heads ≡ length heads₀)
     × (length nexts ≡ length nexts₀) × (length listed ≡ length listed₀) × (left < maxStates)
-    × Ready work heads nexts listed count × Kept tops masks (rules .states) work count owners kept
+    × Ready work heads nexts listed count × KeptLines tops masks (rules .states) work count owners kept
     × Owns work count class line counters owners × PresentOf (present .count) places counters (rules .states)
     × LettersToGo rules tops lefts masks (vertexOf left counters) p work₀ n work count letter
 

@@ -8,20 +8,20 @@ use lib.ListN.{length}
 use Rattle.slots.specs.Slots.{slotCount}
 use Rattle.discovery.specs.Representation.{Ready}
 use Rattle.discovery.proofs.FoldLoops.{other-stops}
-use Rattle.kept.specs.Kept.{Kept}
+use Rattle.kept.specs.Kept.{KeptLines}
 use Rattle.kept.proofs.KeptSteps.{kept-begin}
 use Rattle.walk.proofs.ExpandLoops.{PlacesToGo, expand-all-start, expand-all-next, expand-all-stop, expand-all-end}
 use Rattle.walk.proofs.expand_all.Statement.{statement}
 use Rattle.walk.proofs.expand_all.Tie as tie
 
 abbrev Inv-loop : tie.InvT-loop
-Inv-loop rules tops lefts masks work₀ heads₀ nexts₀ listed₀ n table owners₀ places₀ count₀ p₀ work heads nexts listed owners places count p =
+Inv-loop rules tops lefts masks work₀ heads₀ nexts₀ listed₀ n table owners₀ kept₀ count₀ p₀ work heads nexts listed owners kept count p =
     (length work ≡ length work₀) × (length heads ≡ length heads₀) × (length nexts ≡ length nexts₀) × (length listed ≡ length listed₀)
-    × Ready work heads nexts listed count × Kept tops masks (rules .states) work count owners places
+    × Ready work heads nexts listed count × KeptLines tops masks (rules .states) work count owners kept
     × PlacesToGo rules tops lefts masks work₀ n work count p
 
 abbrev μ-loop : tie.MeasureT-loop
-μ-loop rules tops lefts masks work₀ heads₀ nexts₀ listed₀ n table owners₀ places₀ count₀ p₀ work heads nexts listed owners places count p =
+μ-loop rules tops lefts masks work₀ heads₀ nexts₀ listed₀ n table owners₀ kept₀ count₀ p₀ work heads nexts listed owners kept count p =
     slotCount (length work₀) - p
 
 loop-holds : tie.Need-loop-holds Inv-loop μ-loop

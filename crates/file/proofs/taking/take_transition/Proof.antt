@@ -9,7 +9,7 @@ use denote.Ref.{now}
 use lib.Dec.{ltb→lt, ltb}
 use borrow.Author.Tests.{not-true, not-false}
 use Rattle.automaton.proofs.InRange.{and-three}
-use Rattle.automaton.proofs.Tests.{is-true}
+use Rattle.automaton.proofs.Booleans.{is-true}
 use Rattle.automaton.specs.Automata.{wholeOf}
 use Rattle.file.specs.declared.Progress.the-variants.{Refused, Goes}
 use Rattle.format.specs.File.{next}
