@@ -8,7 +8,7 @@
 #include <string.h>
 
 struct file {
-    uint8_t bytes[1024];
+    uint8_t bytes[4096];
     size_t len;
 };
 

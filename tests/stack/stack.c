@@ -124,13 +124,25 @@ static void contain_calls(void) {
     measure("contain", contained, calls, SIZE(calls));
 }
 
+/* A ring of so many states on all letters, each of them accepting; the header may name more states, which are not reached. */
+static struct file ring(uint8_t n, uint8_t states) {
+    struct file f = header(states, EDITION_MAX_LETTERS, 0);
+    for (uint8_t q = 0; q < n; q++) accepting(&f, q);
+    for (uint8_t q = 0; q < n; q++)
+        for (uint8_t a = 0; a < EDITION_MAX_LETTERS; a++) transition(&f, q, a, (uint8_t)((q + 1) % n));
+    end(&f);
+    return f;
+}
+
 static void offer_calls(void) {
+    const uint8_t n = EDITION_MAX_STATES - 1;
     struct file f = example("examples/f.ba"), g = example("examples/g.ba"), h3 = chain(1, 1, 1), j = example("examples/j.ba");
     h3.bytes[2] = 3;
     const struct call calls[] = {
         {"a forward word of no letters", h3, j, 0, WORK, WORD, packed_offer(EDITION_FORWARD, 0, 0, 0, 0), 0},
         {"refused after reading", held[APART], right[APART], 15, WORK, WORD, packed_offer(100 + EDITION_REFUSED_BOUND, 0, 0, 0, 0), 0},
         {"taken, 5 and 8 vertices", f, g, 1, WORK, WORD, packed_offer(EDITION_TAKEN, 5, 8, 0, 0), 0},
+        {"taken, 31 states, 16 letters", ring(n, n + 1), ring(n, n), 0, WORK, WORD, packed_offer(EDITION_TAKEN, n, n, 0, 0), 0},
         {"a back word of 1 letter", f, g, 0, WORK, WORD, packed_offer(EDITION_BACK, 4, 2, 1, 0), 1},
         {"one byte of work short", held[APART], right[APART], 0, WORK - 1, WORD, packed_offer(100 + EDITION_REFUSED_SLOTS, 4095, 0, 0, 1), 0},
         {"one byte of word short", held[APART], right[APART], 0, WORK, 4094, packed_offer(100 + EDITION_REFUSED_WORD, 0, 0, 4095, 1), 0},
