@@ -84,15 +84,6 @@ none-fewer (suc k) m [] l h = tt
 none-fewer (suc k) zero (P ∷ rows) l h = absurd (not-suc-le-zero l)
 none-fewer (suc k) (suc m) (P ∷ rows) l h = (h .0, none-fewer k m rows (le-of-suc-le-suc l) (h .1))
 
-pub first-append-left : {X : Type 0} (rows more : List (Row X)) (x : X) → First rows x → First (rows ++ more) x
-first-append-left [] more x p = absurd p
-first-append-left (P ∷ rows) more x (inl p) = inl p
-first-append-left (P ∷ rows) more x (inr p) = inr (p .0, first-append-left rows more x (p .1))
-
-pub first-append-right : {X : Type 0} (rows more : List (Row X)) (x : X) → None rows → First more x → First (rows ++ more) x
-first-append-right [] more x h p = p
-first-append-right (P ∷ rows) more x h p = inr (h .0, first-append-right rows more x (h .1) p)
-
 pub first-append-cases : {X : Type 0} (rows more : List (Row X)) (x : X) → First (rows ++ more) x
     → First rows x ⊎ (None rows × First more x)
 first-append-cases [] more x p = inr (tt, p)

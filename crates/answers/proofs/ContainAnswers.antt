@@ -6,7 +6,7 @@ use mathlib.Core.Logic.{_↔_}
 use mathlib.Core.List.{List}
 use Prim.Native.Nat.{ℕ, _≤_}
 use borrow.Author.Tests.{le-leb}
-use lib.Dec.{eqb, leb}
+use lib.Dec.{eqb}
 use lib.ListN.{length, take}
 use native.Mathlib.Omega.{arith}
 use Rattle.format.proofs.FileLaws.{file-refusals}
@@ -17,7 +17,7 @@ use Rattle.answers.specs.declared.Outcome.the-variants.{Refused}
 use Rattle.answers.specs.Checks.{None, At}
 use Rattle.answers.specs.Contain.{outcomeOf}
 use Rattle.answers.specs.Table.{containRows, containPlace}
-use Rattle.answers.specs.Demand1.{ContainRefusal, first-file, second-file, bound, letters, first-dead, second-dead, Listed}
+use Rattle.answers.specs.Demand1.{first-file, second-file, bound, letters, first-dead, second-dead, Listed}
 use Rattle.answers.proofs.ChecksLaws.{also, Every, first-every, Placed, first-at}
 use Rattle.answers.proofs.FileRows.{refused-read}
 use Rattle.answers.proofs.ContainTable.{contain-table}
@@ -78,6 +78,3 @@ module _ (f g : List ℕ) (b : ℕ) (work word : List ℕ) where
           let l = list-word-length (p .2 .first) (p .2 .second) b (slotCount (length work)) (w .nodes) (w .last) (w .fits) in
           subst Lists (sym (p .3)) (omega (arith, w .condition .0, w .fits .room), omega (arith, w .condition .0, w .condition .1, l)))
           tt)))))))))
-
-  pub contain-refusals : (n file : ℕ) → outcomeOf f g b work word ≡ Refused n file → ContainRefusal n file
-  contain-refusals n file e = subst (Listed (slotCount (length work)) (length word)) e contain-numbers

@@ -1,13 +1,12 @@
 -- Demand 1 of contain, from the table, the numbers and the walk that the two buffers show. Assumes nothing.
-use mathlib.Core.Path.{_≡_, refl, sym, ap, _∙_}
+use mathlib.Core.Path.{_≡_, refl, ap}
 use mathlib.Core.Bool.{Bool, true, false, cond, not}
-use mathlib.Core.List.{List, [], _∷_, _++_}
+use mathlib.Core.List.{List, _++_}
 use Prim.Native.Nat.{ℕ}
 use native.Mathlib.Nat.{lt-of-not-le}
-use native.Mathlib.Omega.{arith}
 use borrow.Author.Tests.{leb-false}
 use lib.Dec.{eqb, leb, ltb}
-use lib.ListN.{length, take, drop}
+use lib.ListN.{length, drop}
 use Rattle.automaton.specs.declared.Automaton.{Automaton}
 use Rattle.automaton.specs.Automata.{InRange}
 use Rattle.format.specs.File.{holds, readFile}
@@ -16,8 +15,8 @@ use Rattle.format.proofs.FileRefusals.{file-reads-as}
 use Rattle.deadstates.specs.DeadEnds.{hasDead}
 use Rattle.slots.specs.declared.Vertex.{Vertex}
 use Rattle.slots.specs.Slots.{slotCount}
-use Rattle.graph.specs.Discovery.{Node, Walk, going, ended, full, nodesOf}
-use Rattle.graph.specs.LagGraph.{maxBound, lagGraph}
+use Rattle.graph.specs.Discovery.{Node, Walk, going, ended, full}
+use Rattle.graph.specs.LagGraph.{maxBound}
 use Rattle.graph.specs.Walks.{walkOf, workAfter, wordOf, NeedsMore}
 use Rattle.graph.proofs.WalkTheorem.{walk-full, walk-full-front}
 use Rattle.graph.proofs.ListExists.{list-exists}

@@ -1,6 +1,6 @@
 -- What contain answers, by the table: the outcome is x exactly when x is the answer of the first row whose condition holds. Each check of
 -- the call is matched with its row; a row's two automata are those of the files, and its list is that of the walk. Assumes nothing.
-use mathlib.Core.Path.{_≡_, refl, sym, _∙_}
+use mathlib.Core.Path.{_≡_, refl}
 use mathlib.Core.Bool.{Bool, true, false, cond, not}
 use mathlib.Core.Logic.{inl, _↔_}
 use mathlib.Core.List.{List}
@@ -10,7 +10,7 @@ use borrow.Author.Tests.{ltb-true, ltb-false, leb-true, leb-false, eqb-true, eqb
 use lib.Dec.{eqb, leb, ltb}
 use lib.ListN.{length, drop}
 use Rattle.automaton.specs.declared.Automaton.{Automaton}
-use Rattle.format.specs.File.{Read, refused, holds, readFile}
+use Rattle.format.specs.File.{holds, readFile}
 use Rattle.format.proofs.FileLaws.{read-not-both}
 use Rattle.deadstates.specs.DeadEnds.{hasDead}
 use Rattle.slots.specs.declared.Vertex.{Vertex}

@@ -9,7 +9,7 @@
 --   outcomeOf, workOf, wordBuffer   its three parts
 --   partLength       the length of the part of the word buffer that is handed back: the word, an empty part where there is none
 -- Shown by `contain-demand-1` and `demand-2`. Assumes nothing.
-use mathlib.Core.Bool.{Bool, cond, not}
+use mathlib.Core.Bool.{cond, not}
 use mathlib.Core.List.{List}
 use Prim.Native.Nat.{ℕ}
 use lib.Dec.{eqb, leb, ltb}

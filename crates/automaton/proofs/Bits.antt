@@ -2,12 +2,12 @@
 -- is told by halving both powers; everything else follows from the bits of "or". Assumes nothing.
 use mathlib.Core.Path.{_≡_, refl, sym, ap, subst, _∙_}
 use mathlib.Core.Bool.{Bool, true, false, _&&_, _||_}
-use mathlib.Core.Logic.{_⊎_, inl, inr, ⊎-elim, _↔_, _≢_}
+use mathlib.Core.Logic.{_⊎_, inl, inr, ⊎-elim, _↔_}
 use mathlib.Core.List.{List}
 use Prim.Native.Nat.{ℕ, zero, suc, _/_, _%_, _^_, _≤_, _<_}
 use native.Mathlib.Nat.{pow-suc, one-le-pow, mul-div-mul-right, mul-mod-left, div-one, div-eq-of-lt, zero-div}
 use native.Mathlib.Omega.{arith}
-use borrow.Author.Tests.{eq-eqb, ne-eqb, eqb-true, eqb-false}
+use borrow.Author.Tests.{eq-eqb, eqb-true, eqb-false}
 use lib.Bits.{bitOr, or-shr, or-mod, or-zero-l}
 use lib.Dec.{T, eqb, ltb, lt→ltb, eqb→eq, eqb-refl, eqb·zero-suc, eqb·suc-zero, eqb·suc-suc}
 use lib.ListN.{length, getD, set, replicate, length-set, length-replicate}
@@ -51,10 +51,6 @@ bit-power (suc i) (suc j) = ap (λ (x : ℕ). eqb (x % 2) 1) halved ∙ bit-powe
 pub bit-with : (w i j : ℕ) → bit (withBit w i) j ≡ (bit w j || eqb i j)
 bit-with w i j = bit-or w (2 ^ i) j ∙ ap (λ (c : Bool). bit w j || c) (bit-power i j)
 
-or-true : (c : Bool) → (c || true) ≡ true
-or-true true = refl
-or-true false = refl
-
 or-false : (c : Bool) → (c || false) ≡ c
 or-false true = refl
 or-false false = refl
@@ -62,12 +58,6 @@ or-false false = refl
 and-false : (c : Bool) → (c && false) ≡ false
 and-false true = refl
 and-false false = refl
-
-pub bit-with-same : (w i : ℕ) → bit (withBit w i) i ≡ true
-bit-with-same w i = bit-with w i i ∙ ap (λ (c : Bool). bit w i || c) (eq-eqb i i refl) ∙ or-true (bit w i)
-
-pub bit-with-other : (w i j : ℕ) → i ≢ j → bit (withBit w i) j ≡ bit w j
-bit-with-other w i j h = bit-with w i j ∙ ap (λ (c : Bool). bit w j || c) (ne-eqb i j h) ∙ or-false (bit w j)
 
 pub bit-zero : (j : ℕ) → bit 0 j ≡ false
 bit-zero j = ap (λ (x : ℕ). eqb (x % 2) 1) (zero-div (2 ^ j))

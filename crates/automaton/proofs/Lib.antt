@@ -7,4 +7,3 @@ pub mod InRange
 pub mod Bits
 pub mod EqualAutomata
 pub mod Rank
-pub mod Heads

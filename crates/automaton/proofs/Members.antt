@@ -1,16 +1,15 @@
--- The next member of a range: what it is, how a loop over next members goes through the list of all, and how it is found byte by byte.
+-- The next member of a range: what it is, and how it is found byte by byte.
 -- Then loops over ranges that test, sum and look for members that the header lacks: the rest from i on gives the answer of the whole.
 -- Assumes nothing.
 use mathlib.Core.Path.{_≡_, refl, sym, ap, subst, _∙_}
 use mathlib.Core.Bool.{Bool, true, false, _&&_, _||_, not}
-use mathlib.Core.List.{List, [], _∷_}
-use mathlib.Core.Logic.{_⊎_, ⊎-elim}
+use mathlib.Core.List.{List, _∷_}
+use mathlib.Core.Logic.{⊎-elim}
 use Prim.Native.Nat.{ℕ, zero, suc, _+_, _-_, _*_, _/_, _%_, _^_, _≤_, _<_}
 use native.Mathlib.Nat.{mul-assoc, eq-or-lt-of-le, lt-of-not-le}
 use native.Mathlib.Omega.{arith}
 use lib.Bits.{shifted-even}
 use lib.Dec.{eqb, ltb}
-use lib.ListN.{getD}
 use lib.Pow.{pow-add, shl-shr, shr-shr}
 use borrow.Author.Tests.{lt-ltb, le-ltb}
 use Rattle.automaton.specs.declared.Automaton.{Automaton}
@@ -31,24 +30,6 @@ same-along g i j h same = go (j - i) i (omega arith) (omega arith)
 -- What the next member is.
 
 module _ (f : ℕ → Bool) where
-  pub next-from : (n i : ℕ) → i ≤ nextFrom f n i
-  unfolding nextFrom
-  next-from zero i = omega arith
-  next-from (suc n) i = go (f i) (next-from n (suc i))
-    where
-      go : (b : Bool) → suc i ≤ nextFrom f n (suc i) → i ≤ elim b [ true ↦ i | false ↦ nextFrom f n (suc i) ]
-      go true h = omega arith
-      go false h = omega arith
-
-  pub next-to : (n i : ℕ) → nextFrom f n i ≤ i + n
-  unfolding nextFrom
-  next-to zero i = omega arith
-  next-to (suc n) i = go (f i) (next-to n (suc i))
-    where
-      go : (b : Bool) → nextFrom f n (suc i) ≤ suc i + n → elim b [ true ↦ i | false ↦ nextFrom f n (suc i) ] ≤ i + suc n
-      go true h = omega arith
-      go false h = omega arith
-
   pub next-holds : (n i : ℕ) → nextFrom f n i < i + n → f (nextFrom f n i) ≡ true
   unfolding nextFrom
   next-holds zero i h = absurd (omega arith)
@@ -78,17 +59,6 @@ module _ (f : ℕ → Bool) where
       go : (n l : ℕ) → n ≡ suc l → nextFrom f n i ≡ nextFrom f l (suc i)
       go n l q = ap (λ (x : ℕ). nextFrom f x i) q ∙ ap (λ (b : Bool). elim b [ true ↦ i | false ↦ nextFrom f l (suc i) ]) e
 
-  those-suc : (m i : ℕ) → f i ≡ false → those f (m - i) i ≡ those f (m - suc i) (suc i)
-  unfolding those
-  those-suc m i e = go (m - i) (m - suc i) (omega arith)
-    where
-      go : (n l : ℕ) → l ≡ n - 1 → those f n i ≡ those f l (suc i)
-      go zero l q = let z : 0 ≡ l = omega arith in ap (λ (x : ℕ). those f x (suc i)) z
-      go (suc n) l q =
-          let z : n ≡ l = omega arith in
-          ap (λ (b : Bool). elim b [ true ↦ i ∷ those f n (suc i) | false ↦ those f n (suc i) ]) e
-          ∙ ap (λ (x : ℕ). those f x (suc i)) z
-
   -- numbers at which f does not hold are passed over
   pub next-skip : (m i j : ℕ) → i ≤ j → j ≤ m → ((k : ℕ) → i ≤ k → k < j → f k ≡ false)
       → nextFrom f (m - i) i ≡ nextFrom f (m - j) j
@@ -109,32 +79,6 @@ module _ (f : ℕ → Bool) where
     where
       go : (n k : ℕ) → n ≡ suc k → nextFrom f n t ≡ t
       go n k q = ap (λ (x : ℕ). nextFrom f x t) q ∙ ap (λ (b : Bool). elim b [ true ↦ t | false ↦ nextFrom f k (suc t) ]) e
-
-  -- A loop that starts at `t = nextFrom f (M - i) i` and goes on, while t < m, to the next member from t + 1 on goes through the
-  -- members below m: here they are those from t on, ..
-  pub those-next : (M m i : ℕ) → i ≤ M → those f (m - i) i ≡ those f (m - nextFrom f (M - i) i) (nextFrom f (M - i) i)
-  those-next M m i h =
-      same-along (λ k. those f (m - k) k) i (nextFrom f (M - i) i) (next-from (M - i) i)
-      (λ k p q. those-suc m k (next-before (M - i) i k p q))
-
-  -- .. of these t is the first, and the rest are those from t + 1 on, ..
-  pub those-here : (m t : ℕ) → t < m → f t ≡ true → those f (m - t) t ≡ t ∷ those f (m - (t + 1)) (t + 1)
-  unfolding those
-  those-here m t h e = go (m - t) (m - (t + 1)) (t + 1) (omega arith) (omega arith)
-    where
-      go : (n l u : ℕ) → n ≡ suc l → u ≡ suc t → those f n t ≡ t ∷ those f l u
-      go n l u q r =
-          ap (λ (x : ℕ). those f x t) q
-          ∙ ap (λ (b : Bool). elim b [ true ↦ t ∷ those f l (suc t) | false ↦ those f l (suc t) ]) e
-          ∙ ap (λ (x : ℕ). t ∷ those f l x) (sym r)
-
-  -- .. and from m on there are none.
-  pub those-end : (m t : ℕ) → m ≤ t → those f (m - t) t ≡ []
-  unfolding those
-  those-end m t h = go (m - t) (omega arith)
-    where
-      go : (n : ℕ) → n ≡ 0 → those f n t ≡ []
-      go n q = ap (λ (x : ℕ). those f x t) q
 
 -- Bits.
 
@@ -170,9 +114,6 @@ least-next : (w : ℕ) → leastMember w ≡ nextFrom (bit w) 8 0
 unfolding leastMember nextFrom
 least-next w = refl
 
-pub least-to : (w : ℕ) → leastMember w ≤ 8
-least-to w = rw least-next (next-to (bit w) 8 0)
-
 pub least-holds : (w : ℕ) → leastMember w < 8 → bit w (leastMember w) ≡ true
 least-holds w h = rw least-next (next-holds (bit w) 8 0 (rw least-next at h))
 
@@ -200,33 +141,6 @@ module _ (f : ℕ → Bool) (b i v n : ℕ) (low : b * 8 ≤ i) (least : n ≡ l
 
   pub next-past-byte : (m j : ℕ) → j ≡ b * 8 + 8 → i ≤ j → j ≤ m → 8 ≤ n → nextFrom f (m - i) i ≡ nextFrom f (m - j) j
   next-past-byte m j d g h l = next-skip f m i j g h (λ k p q. none-before k p (omega arith) (omega arith))
-
--- The targets of q on letter a stand in four bytes of an automaton's transitions.
-
-module _ (t : List ℕ) (q a : ℕ) where
-  pub bit-of-byte : (b k : ℕ) → k < 8 → transitionIn t q a (b * 8 + k) ≡ bit (getD t ((q * 16 + a) * 4 + b) 0) k
-  bit-of-byte b k h = go ((b * 8 + k) / 8) ((b * 8 + k) % 8) (omega arith) (omega arith)
-    where
-      go : (c j : ℕ) → c ≡ b → j ≡ k → bit (getD t ((q * 16 + a) * 4 + c) 0) j ≡ bit (getD t ((q * 16 + a) * 4 + b) 0) k
-      go c j d e = ap (λ (x : ℕ). bit (getD t ((q * 16 + a) * 4 + x) 0) j) d ∙ ap (bit (getD t ((q * 16 + a) * 4 + b) 0)) e
-
-  -- with n the least member, from i on, of the byte that holds i, the next target is in that byte or past it
-  module _ (i n : ℕ) (least : n ≡ leastMember (getD t ((q * 16 + a) * 4 + i / 8) 0 / 2 ^ (i % 8) * 2 ^ (i % 8))) where
-    cleared : (k : ℕ) → i / 8 * 8 + k < i → bit (getD t ((q * 16 + a) * 4 + i / 8) 0 / 2 ^ (i % 8) * 2 ^ (i % 8)) k ≡ false
-    cleared k u = bit-cleared (getD t ((q * 16 + a) * 4 + i / 8) 0) (i % 8) k (omega arith)
-
-    kept : (k : ℕ) → i ≤ i / 8 * 8 + k → k < 8
-        → transitionIn t q a (i / 8 * 8 + k) ≡ bit (getD t ((q * 16 + a) * 4 + i / 8) 0 / 2 ^ (i % 8) * 2 ^ (i % 8)) k
-    kept k p u = bit-of-byte (i / 8) k u ∙ sym (bit-kept (getD t ((q * 16 + a) * 4 + i / 8) 0) (i % 8) k (omega arith))
-
-    pub target-in-byte : i < 32 → n < 8 → nextFrom (transitionIn t q a) (32 - i) i ≡ i / 8 * 8 + n
-    target-in-byte h l = next-in-byte (transitionIn t q a) (i / 8) i _ n (omega arith) least cleared kept 32 (omega arith) l
-
-    pub target-past-byte : i < 32 → 8 ≤ n
-        → nextFrom (transitionIn t q a) (32 - i) i ≡ nextFrom (transitionIn t q a) (32 - (i / 8 + 1) * 8) ((i / 8 + 1) * 8)
-    target-past-byte h l =
-        next-past-byte (transitionIn t q a) (i / 8) i _ n (omega arith) least cleared kept 32 ((i / 8 + 1) * 8)
-        (omega arith) (omega arith) (omega arith) l
 
 -- Loops over a range of m numbers: at i the numbers below i are done, and the rest starts at i.
 

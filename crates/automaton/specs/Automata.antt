@@ -5,12 +5,11 @@
 --   transitionCount A      the number of transitions
 --   bare n k i             n states, k letters, initial state i, nothing accepting and no transition
 --   withAccepting, withTransition   one accepting state, one transition more
---   headOf A               the automaton without its transitions
 --   wholeOf h t            the automaton with the head h and the transitions t
 --   InRange A, inRange A   the header's numbers are those that a file may have, and no bit is set for a state or a letter that they
 --                          leave out: said, and computed
 -- Shown by `in-range-iff`: the two say the same. By `equal-automata` an automaton in range is known by its header, its accepting states and its
--- transitions; by `whole-of-head` an automaton is its head with its transitions. Assumes nothing.
+-- transitions. Assumes nothing.
 use mathlib.Core.Bool.{Bool, true, false, _&&_, _||_, not}
 use mathlib.Core.List.{List}
 use Prim.Native.Nat.{ℕ, _+_, _*_, _/_, _%_, _≤_, _<_}
@@ -76,9 +75,6 @@ withTransition A q a r =
       accepting = A .accepting;
       transitions = set (A .transitions) (place q a r) (withBit (getD (A .transitions) (place q a r) 0) (r % 8));
     }
-
-abbrev pub headOf : Automaton → Head
-headOf A = record { states = A .states; letters = A .letters; initial = A .initial; accepting = A .accepting }
 
 abbrev pub wholeOf : Head → List ℕ → Automaton
 wholeOf h t =

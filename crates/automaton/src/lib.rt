@@ -1,6 +1,6 @@
 // A Büchi automaton as a value: equal values are equal automata, since the bits of states and letters that it lacks are zero.
 ghost use mathlib.Core.Path.{_≡_};
-ghost use Rattle.automaton.specs.Automata.{headerValues, bare, headOf};
+ghost use Rattle.automaton.specs.Automata.{headerValues};
 
 mod sets;
 mod targets;
@@ -48,30 +48,4 @@ pub fn header_values(states: usize, letters: usize, initial: usize) -> bool
         & (1 <= letters)
         & (letters <= MAX_LETTERS)
         & (initial < states)
-}
-
-// The automaton with these header values, no accepting state and no transition.
-pub fn bare(states: usize, letters: usize, initial: usize) -> Automaton
-    ensures { λ r. ⌜ r ≡ bare states letters initial ⌝ }
-{
-    Automaton {
-        states,
-        letters,
-        initial,
-        accepting: [0; 4],
-        transitions: [0; 2048],
-    }
-}
-
-// The automaton without its transitions.
-pub fn head_of(a: Automaton) -> Head
-    ensures { λ r. ⌜ r ≡ headOf a ⌝ }
-{
-    let accepting = a.accepting;
-    Head {
-        states: a.states,
-        letters: a.letters,
-        initial: a.initial,
-        accepting,
-    }
 }

@@ -1,16 +1,15 @@
 -- The number of an open, an offer or a verdict tells the whole answer: kind, counts, word length and walk are the digits of an offer's, and no
 -- two answers that can occur share them. Assumes nothing.
-use mathlib.Core.Path.{_≡_, refl, sym, ap, _∙_}
+use mathlib.Core.Path.{_≡_, refl, ap, _∙_}
 use mathlib.Core.Bool.{cond}
 use mathlib.Core.List.{List}
 use mathlib.Core.Logic.{_↔_}
 use Prim.Native.Nat.{ℕ, _+_, _-_, _/_, _%_, _^_, _≤_, _<_}
-use native.Mathlib.Nat.{min-le-right}
 use native.Mathlib.Omega.{arith}
 use borrow.Author.Tests.{ne-eqb}
 use lib.Dec.{eqb}
 use lib.ListN.{length}
-use Rattle.slots.specs.Slots.{slotSize, maxSlots, slotCount}
+use Rattle.slots.specs.Slots.{maxSlots, slotCount}
 use Rattle.history.specs.declared.Entry.{Entry}
 use Rattle.history.specs.declared.OpenAnswer.{OpenAnswer}
 use Rattle.history.specs.declared.OpenAnswer.the-variants.{Opened, Refused as OpenRefused}
@@ -24,6 +23,8 @@ use Rattle.history.specs.Verdicts.{verdictOf}
 use Rattle.boundary.specs.Numbers.{openNumber, packedOffer, offerNumber, verdictNumber}
 use Rattle.history.specs.OfferDemand.{OfferRefusal, malformed-entry, empty-entry, bad-file, bad-bound, other-letters, dead-state, not-smaller, WalkNumber, forward-walk, back-walk, OfferListed}
 use Rattle.history.proofs.OfferAnswers.{offer-numbers}
+use Rattle.boundary.proofs.NumberLaws.{read-back}
+use Rattle.boundary.proofs.OutcomeSizes.{slot-count-le}
 
 -- Open and verdict.
 
@@ -131,10 +132,7 @@ pub offer-number : (E : Entry) (f : List ℕ) (b : ℕ) (work word : List ℕ) (
     → OfferListed (slotCount (length work)) (length word) x
     → (offerNumber (offerOf E f b work word .answer) ≡ offerNumber x) ↔ (offerOf E f b work word .answer ≡ x)
 offer-number E f b work word x l =
-    let h = min-le-right (length work / slotSize) maxSlots in
-    let y = offerOf E f b work word .answer in (
-      λ e.
-          sym (number-tells (slotCount (length work)) (length word) y h (offer-numbers E f b work word))
-          ∙ (ap told e ∙ number-tells (slotCount (length work)) (length word) x h l),
-      λ e. ap offerNumber e,
-    )
+    let S = slotCount (length work) in
+    let h = slot-count-le (length work) in
+    read-back offerNumber told (number-tells S (length word) _ h (offer-numbers E f b work word))
+    (number-tells S (length word) x h l)

@@ -1,23 +1,23 @@
 -- Contain's one number tells the answer: kind, count and word length are its digits to the bases 256 and 65,536, and no two answers of
 -- contain's list share them. Assumes nothing.
-use mathlib.Core.Path.{_≡_, sym, ap, _∙_}
+use mathlib.Core.Path.{_≡_, ap, _∙_}
 use mathlib.Core.Bool.{cond}
 use mathlib.Core.List.{List}
 use mathlib.Core.Logic.{_↔_}
 use Prim.Native.Nat.{ℕ, _+_, _-_, _/_, _%_, _≤_, _<_}
-use native.Mathlib.Nat.{min-le-right}
 use native.Mathlib.Omega.{arith}
 use borrow.Author.Tests.{ne-eqb}
 use lib.Dec.{eqb}
 use lib.ListN.{length}
-use Rattle.slots.specs.Slots.{slotSize, maxSlots, slotCount}
+use Rattle.slots.specs.Slots.{maxSlots, slotCount}
 use Rattle.answers.specs.declared.Outcome.{Outcome}
 use Rattle.answers.specs.declared.Outcome.the-variants.{Refused, Compared}
 use Rattle.answers.specs.declared.Comparison.the-variants.{Contained, Differs, NoSlots, NoRoom}
 use Rattle.answers.specs.Contain.{contained, differs, noSlots, noRoom, outcomeOf}
 use Rattle.boundary.specs.Numbers.{packed, outcomeNumber}
 use Rattle.answers.specs.Demand1.{ContainRefusal, Listed}
-use Rattle.boundary.proofs.OutcomeSizes.{refusal-sized}
+use Rattle.boundary.proofs.NumberLaws.{read-back}
+use Rattle.boundary.proofs.OutcomeSizes.{slot-count-le, refusal-sized}
 use Rattle.answers.proofs.ContainAnswers.{contain-numbers}
 
 packed-kind : (k c l : ℕ) → k < 256 → packed k c l % 256 ≡ k
@@ -70,9 +70,7 @@ number-tells S room (Compared (NoRoom len)) h l = told-packed 111 0 len (omega a
 pub contain-number : (f g : List ℕ) (b : ℕ) (work word : List ℕ) (x : Outcome) → Listed (slotCount (length work)) (length word) x
     → (outcomeNumber (outcomeOf f g b work word) ≡ outcomeNumber x) ↔ (outcomeOf f g b work word ≡ x)
 contain-number f g b work word x l =
-    let h = min-le-right (length work / slotSize) maxSlots in (
-      λ e.
-          sym (number-tells (slotCount (length work)) (length word) (outcomeOf f g b work word) h (contain-numbers f g b work word))
-          ∙ (ap told e ∙ number-tells (slotCount (length work)) (length word) x h l),
-      λ e. ap outcomeNumber e,
-    )
+    let S = slotCount (length work) in
+    let h = slot-count-le (length work) in
+    read-back outcomeNumber told (number-tells S (length word) _ h (contain-numbers f g b work word))
+    (number-tells S (length word) x h l)

@@ -109,7 +109,7 @@ module _ (s : List ℕ) (long : length s ≡ entryLength) where
         drop-cons s 12 0 (omega arith),
       )
 
-  pub transitions-behind : take 2048 (drop 13 s) ≡ drop 13 s
+  transitions-behind : take 2048 (drop 13 s) ≡ drop 13 s
   transitions-behind = take-all 2048 (drop 13 s) (simp length-drop (omega arith))
 
   arrays-behind : take 4 (drop 9 s) ++ take 2048 (drop 13 s) ≡ drop 9 s
@@ -166,9 +166,12 @@ copied-one-more d l t i x e h k q =
 pub copied-all : (d l t : List ℕ) → l ≡ paste d 0 t 2048 → length t ≡ 2048 → l ≡ t ++ drop 2048 d
 copied-all d l t e n = e ∙ rw (take-all 2048 t (omega arith))
 
-pub copied-over-all : (d l t : List ℕ) → l ≡ paste d 0 t 2048 → length t ≡ 2048 → length d ≡ 2048 → l ≡ t
-copied-over-all d l t e n h =
-    copied-all d l t e n ∙ ap (λ (x : List ℕ). t ++ x) (drop-of-length-le d {i = 2048} (omega arith)) ∙ append-nil t
+-- over an array of their length: the part from byte 13 on of an entry's bytes
+pub copied-over : (s d l : List ℕ) → length s ≡ entryLength → length d ≡ 2048
+    → l ≡ take (length s - 13) (drop 13 s) ++ drop 2048 d → l ≡ take 2048 (drop 13 s)
+copied-over s d l h n e =
+    e ∙ ap₂ (λ (x y : List ℕ). x ++ y) (take-all (length s - 13) (drop 13 s) (simp length-drop (omega arith))) (drop-of-length-le d {i = 2048} (omega arith))
+    ∙ append-nil (drop 13 s) ∙ sym (transitions-behind s h)
 
 -- the entry that is put together from the bytes
 pub entry-read : (s : List ℕ) → length s ≡ entryLength → (n : ℕ) (t : List ℕ)

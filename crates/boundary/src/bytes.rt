@@ -1,11 +1,12 @@
 // Entries as the bytes that cross to vendors.
-use automaton::Automaton;
-use history::Entry;
+use automaton::Head;
+use history::EntryHead;
 ghost use mathlib.Core.Path.{_≡_};
 ghost use mathlib.Core.List.{_++_};
 ghost use Prim.Native.Nat.{_≤_};
-ghost use lib.ListN.{length, take, drop};
+ghost use lib.ListN.{length, drop};
 ghost use Rattle.automaton.specs.Automata.{one};
+ghost use Rattle.history.specs.Entries.{entryWith};
 ghost use Rattle.boundary.specs.Bytes.{entryLength, isEntry, numberOf, entryOf, entryBytes, FitsBytes};
 
 // The bytes of an entry.
@@ -29,35 +30,33 @@ fn number(b0: u8, b1: u8, b2: u8, b3: u8) -> usize
     b0 as usize + 256 * (b1 as usize) + 65536 * (b2 as usize) + 16777216 * (b3 as usize)
 }
 
-// The transitions of an entry's bytes.
-fn transitions_of(bytes: &[u8]) -> [u8; 2048]
-    requires { ⌜ length (now bytes) ≡ entryLength ⌝ }
-    ensures { λ r. ⌜ r ≡ take 2048 (drop 13 (now (bytes .entry))) ⌝ }
+// Writes the transitions to the front of the part that is lent.
+fn copy_transitions(part: &mut [u8], transitions: &[u8])
+    requires { ⌜ (2048 ≤ length (now part)) × (length (now transitions) ≡ 2048) ⌝ }
+    ensures { λ _. ⌜ now (part .exit) ≡ now (transitions .entry) ++ drop 2048 (now (part .entry)) ⌝ }
 {
-    let mut transitions = [0u8; 2048];
     let mut i: usize = 0;
     while i < 2048 {
-        transitions[i] = bytes[13 + i];
+        part[i] = transitions[i];
         i += 1;
     }
-    transitions
 }
 
-// The entry that the bytes describe.
-pub fn decode(bytes: &[u8]) -> Entry
+// The entry that the bytes describe; its transitions become those that are lent.
+pub fn decode(bytes: &[u8], held: &mut [u8; 2048]) -> EntryHead
     requires { ⌜ length (now bytes) ≡ entryLength ⌝ }
-    ensures { λ r. ⌜ r ≡ entryOf (now (bytes .entry)) ⌝ }
+    ensures { λ r. ⌜ entryWith r (now (held .exit)) ≡ entryOf (now (bytes .entry)) ⌝ }
 {
-    Entry {
+    copy_transitions(held, &bytes[13..]);
+    EntryHead {
         filled: bytes[0] == 1,
         edition: number(bytes[5], bytes[6], bytes[7], bytes[8]),
         first: bytes[4] as usize,
-        held: Automaton {
+        held: Head {
             states: bytes[1] as usize,
             letters: bytes[2] as usize,
             initial: bytes[3] as usize,
             accepting: [bytes[9], bytes[10], bytes[11], bytes[12]],
-            transitions: transitions_of(bytes),
         },
     }
 }
@@ -69,26 +68,13 @@ fn filled_byte(filled: bool) -> u8
     if filled { 1 } else { 0 }
 }
 
-// Writes the transitions to the front of the part that is lent.
-fn put_transitions(part: &mut [u8], transitions: [u8; 2048])
-    requires { ⌜ 2048 ≤ length (now part) ⌝ }
-    ensures { λ _. ⌜ now (part .exit) ≡ transitions ++ drop 2048 (now (part .entry)) ⌝ }
-{
-    let mut i: usize = 0;
-    while i < 2048 {
-        part[i] = transitions[i];
-        i += 1;
-    }
-}
-
 // Writes the bytes of the entry.
-pub fn encode(entry: Entry, bytes: &mut [u8])
-    requires { ⌜ (length (now bytes) ≡ entryLength) × FitsBytes entry ⌝ }
-    ensures { λ _. ⌜ now (bytes .exit) ≡ entryBytes entry ⌝ }
+pub fn encode(entry: EntryHead, held: &[u8; 2048], bytes: &mut [u8])
+    requires { ⌜ (length (now bytes) ≡ entryLength) × FitsBytes (entryWith entry (now held)) ⌝ }
+    ensures { λ _. ⌜ now (bytes .exit) ≡ entryBytes (entryWith entry (now (held .entry))) ⌝ }
 {
     let edition = entry.edition;
     let accepting = entry.held.accepting;
-    let transitions = entry.held.transitions;
     bytes[0] = filled_byte(entry.filled);
     bytes[1] = entry.held.states as u8;
     bytes[2] = entry.held.letters as u8;
@@ -102,5 +88,5 @@ pub fn encode(entry: Entry, bytes: &mut [u8])
     bytes[10] = accepting[1];
     bytes[11] = accepting[2];
     bytes[12] = accepting[3];
-    put_transitions(&mut bytes[13..], transitions);
+    copy_transitions(&mut bytes[13..], held);
 }

@@ -1,3 +1,4 @@
 -- The proved cases.
 pub mod ProvedCases
 pub mod NoSimulation
+pub mod Unrefused

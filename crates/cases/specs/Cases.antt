@@ -4,7 +4,8 @@
 --   Judged     a file that holds an automaton, and the verdict on it
 --   Right c    the case comes to what its row says
 --   cases      the table
--- Shown by `proved-cases`. Assumes nothing.
+--   openedF    the entry that opening F makes of a fresh one
+-- Shown by `proved-cases`; `offer-unrefused` offers G to the entry that F opens. Assumes nothing.
 use mathlib.Core.Path.{_≡_}
 use mathlib.Core.Bool.{Bool, true, false}
 use mathlib.Core.List.{List, [], _∷_}
@@ -13,6 +14,9 @@ use lib.ListN.{replicate}
 use Rattle.automaton.specs.declared.Automaton.{Automaton}
 use Rattle.format.specs.File.{holds, readFile}
 use Rattle.answers.specs.Contain.{outcomeOf, wordPart}
+use Rattle.history.specs.declared.Entry.{Entry}
+use Rattle.history.specs.Entries.{freshEntry}
+use Rattle.history.specs.Opens.{openOf}
 use Rattle.boundary.specs.Numbers.{outcomeNumber}
 use Rattle.lassos.specs.Verdict.{accepted}
 use Rattle.cases.specs.Worked.{F, G, H, J}
@@ -29,6 +33,9 @@ pub record Judged (f u v : List ℕ) (answer : Bool) : Type 0 where
 
 abbrev pub buffer : ℕ → List ℕ
 buffer n = replicate n 0
+
+abbrev pub openedF : Entry
+openedF = openOf freshEntry F .entry
 
 abbrev pub Right : Case → Type 0
 Right (call f g b work word n part) =

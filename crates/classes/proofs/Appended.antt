@@ -306,26 +306,6 @@ module _ (work : List ℕ) (n : ℕ) (v : Vertex) (a p : ℕ) (fits : n * slotSi
   own-slot : vertexAt (withSlot work n v a p) n ≡ v
   own-slot = with-slot-vertex work n v a p fits long
 
-  -- the class of counters: as before, or the slot itself
-  pub class-appended : (cs : List ℕ)
-      → classOf (withSlot work n v a p) cs (n + 1) ≡ classOr (classOf work cs n) (cond (sameList cs (v .counters)) (n + 1) 0)
-  class-appended cs = class-next-slot work (withSlot work n v a p) n v below-slot own-slot cs
-
-  -- a class that is there stays
-  pub class-stays : (cs : List ℕ) (s : ℕ) → classOf work cs n ≡ suc s → classOf (withSlot work n v a p) cs (n + 1) ≡ suc s
-  class-stays cs s e = class-appended cs ∙ ap (λ (c : ℕ). classOr c (cond (sameList cs (v .counters)) (n + 1) 0)) e
-
-  -- and the slot is then of this class, or leads one
-  pub class-own : classOf (withSlot work n v a p) (v .counters) (n + 1) ≡ classOr (classOf work (v .counters) n) (n + 1)
-  class-own =
-      class-appended (v .counters)
-      ∙ ap (λ (b : Bool). classOr (classOf work (v .counters) n) (cond b (n + 1) 0)) (lists-equal (v .counters) (v .counters) refl)
-
-  -- the slot's left state is listed with its counters besides
-  pub listed-appended : (cs : List ℕ) (t : ℕ)
-      → listedWith (withSlot work n v a p) cs (n + 1) t ≡ (listedWith work cs n t || (eqb (v .left) t && sameList cs (v .counters)))
-  listed-appended cs t = listed-next-slot work (withSlot work n v a p) n v below-slot own-slot cs t
-
   pub classes-append : (heads nexts listed : List ℕ) (k c : ℕ) → Classes work heads nexts listed n → k ≡ keyOf (v .counters) → k < keys
       → n < maxSlots → c ≡ classOf work (v .counters) n
       → Classes (withSlot work n v a p) (headsAfter heads c k n) (nextsAfter heads nexts c k n) (listedAfter listed c (v .left) n) (n + 1)

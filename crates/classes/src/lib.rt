@@ -8,12 +8,15 @@ ghost use lib.ListN.{length, getD};
 ghost use Rattle.automaton.specs.Automata.{maxStates};
 ghost use Rattle.automaton.specs.Ranges.{some};
 ghost use Rattle.automaton.specs.Sets.{bit};
-ghost use Rattle.slots.specs.Slots.{slotCount, sameList};
+ghost use Rattle.slots.specs.Slots.{slotCount, maxSlots, sameList};
 ghost use Rattle.slots.specs.Bytes.{withSlot};
 ghost use Rattle.classes.specs.Classes.{countersAt, classOf, eightFrom, keyFrom, keyOf, keys, Chained, Classes, classAt, listedIn, headsAfter, nextsAfter, listedAfter};
 use automaton::MAX_STATES;
 use slots::SLOT_SIZE;
 use slots::Vertex;
+
+// The number of keys.
+const KEYS: u64 = 4096;
 
 // Eight counters, from number i on, as one number. So written it is one load.
 fn eight(counters: &[u8; 32], i: usize) -> u64
@@ -46,7 +49,7 @@ fn mixed(w0: u64, w1: u64, w2: u64, w3: u64) -> usize
     let b = w2 ^ (w3 << 4);
     let x = a ^ (b >> 29) ^ (b << 35);
     let y = (x ^ (x >> 30)) % 0x100000000;
-    (y * 2654435761 / 0x100000 % 4096) as usize
+    (y * 2654435761 / 0x100000 % KEYS) as usize
 }
 
 // The key of counters.
@@ -141,7 +144,7 @@ fn join(
     class: usize,
 )
     requires { ⌜
-        (key < length (now heads)) × (n < length (now nexts)) × (n < 4096) × (n < length (now listed)) × (class ≤ n) × (left < maxStates)
+        (key < length (now heads)) × (n < length (now nexts)) × (n < maxSlots) × (n < length (now listed)) × (class ≤ n) × (left < maxStates)
         ⌝ }
     ensures heads { λ _. ⌜ now (heads .exit) ≡ headsAfter (now (heads .entry)) class key n ⌝ }
     ensures nexts { λ _. ⌜ now (nexts .exit) ≡ nextsAfter (now (heads .entry)) (now (nexts .entry)) class key n ⌝ }

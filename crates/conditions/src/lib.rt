@@ -1,12 +1,12 @@
 // Condition 9 of an entry, condition 15 of a lasso word, and whether an offer is smaller (docs/reference.md, "Verdict" and "Entry, open, offer").
-use automaton::Automaton;
+use automaton::Head;
 use automaton::MAX_STATES;
-use history::Entry;
+use history::EntryHead;
 ghost use mathlib.Core.Path.{_≡_};
 ghost use mathlib.Core.Bool.{_&&_};
 ghost use lib.Dec.{leb};
-ghost use Rattle.automaton.specs.Automata.{maxStates, InRange};
-ghost use Rattle.history.specs.Entries.{maxEdition, malformed, smaller};
+ghost use Rattle.automaton.specs.Automata.{maxStates, wholeOf, InRange};
+ghost use Rattle.history.specs.Entries.{maxEdition, entryWith, malformed, smaller};
 ghost use Rattle.history.specs.Verdicts.{outside, badLasso};
 
 // The last edition number that an entry can have.
@@ -22,26 +22,25 @@ fn in_bounds(states: usize, first: usize, edition: usize) -> bool
     (1 <= first) & (first <= MAX_STATES) & (states <= first) & (edition <= MAX_EDITION)
 }
 
-// Whether the entry is malformed; of an empty one no other field is examined.
-pub fn malformed(entry: Entry) -> bool
-    ensures { λ r. ⌜ r ≡ malformed entry ⌝ }
+// Whether the entry is malformed, whose held transitions are lent; of an empty one no other field is examined.
+pub fn malformed(entry: EntryHead, held: &[u8; 2048]) -> bool
+    ensures { λ r. ⌜ r ≡ malformed (entryWith entry (now (held .entry))) ⌝ }
 {
     if !entry.filled {
         return false;
     }
-    if !range_test::in_range(entry.held) {
+    if !range_test::in_range(entry.held, held) {
         return true;
     }
-    if deadend::has_dead(entry.held) {
-        return true;
-    }
-    !in_bounds(entry.held.states, entry.first, entry.edition)
+    let dead = deadend::has_dead(entry.held, held);
+    let outside = !in_bounds(entry.held.states, entry.first, entry.edition);
+    dead | outside
 }
 
 // Whether the offer has fewer states than the held automaton, or as many and fewer transitions.
-pub fn smaller(offer: Automaton, held: Automaton) -> bool
-    requires { ⌜ InRange offer × InRange held ⌝ }
-    ensures { λ r. ⌜ r ≡ smaller offer held ⌝ }
+pub fn smaller(offer: Head, offers: &[u8; 2048], held: Head, helds: &[u8; 2048]) -> bool
+    requires { ⌜ InRange (wholeOf offer (now offers)) × InRange (wholeOf held (now helds)) ⌝ }
+    ensures { λ r. ⌜ r ≡ smaller (wholeOf offer (now (offers .entry))) (wholeOf held (now (helds .entry))) ⌝ }
 {
     if offer.states < held.states {
         return true;
@@ -49,7 +48,7 @@ pub fn smaller(offer: Automaton, held: Automaton) -> bool
     if offer.states != held.states {
         return false;
     }
-    range_test::transition_count(offer) < range_test::transition_count(held)
+    range_test::transition_count(offer, offers) < range_test::transition_count(held, helds)
 }
 
 // Whether some letter of the word is not one of the first `letters`.

@@ -8,7 +8,6 @@ ghost use Rattle.answers.specs.Demand1.{Demand1};
 ghost use Rattle.answers.specs.Demand2.{Demand2};
 use answers::Comparison;
 use answers::Outcome;
-use automaton::Automaton;
 use automaton::Head;
 use discovery::Walked;
 
@@ -60,32 +59,6 @@ pub fn compare(
     }
 }
 
-// The same of two automata by value, for entries.
-pub fn compare_automata(
-    left: Automaton,
-    right: Automaton,
-    bound: usize,
-    work: &mut [u8],
-    word: &mut [u8],
-) -> Comparison
-    requires { ⌜ InRange left × InRange right × (bound ≤ maxBound) ⌝ }
-    ensures answer { λ r. ⌜ r ≡ comparing left right bound (now (work .entry)) (now (word .entry)) .answer ⌝ }
-    ensures work { λ r. ⌜ now (work .exit) ≡ comparing left right bound (now (work .entry)) (now (word .entry)) .work ⌝ }
-    ensures word { λ r. ⌜ now (word .exit) ≡ comparing left right bound (now (work .entry)) (now (word .entry)) .word ⌝ }
-{
-    let left_head = automaton::head_of(left);
-    let right_head = automaton::head_of(right);
-    compare(
-        left_head,
-        &left.transitions,
-        right_head,
-        &right.transitions,
-        bound,
-        work,
-        word,
-    )
-}
-
 // The checks of two automata in order, bound, letter counts and dead states, and then their walk.
 fn decide(
     left: Head,
@@ -115,10 +88,10 @@ fn decide(
     if left.letters != right.letters {
         return Outcome::Refused(7, 0);
     }
-    if deadend::has_dead_in(left, lefts) {
+    if deadend::has_dead(left, lefts) {
         return Outcome::Refused(6, 1);
     }
-    if deadend::has_dead_in(right, rights) {
+    if deadend::has_dead(right, rights) {
         return Outcome::Refused(6, 2);
     }
     Outcome::Compared(compare(left, lefts, right, rights, bound as usize, work, word))
@@ -146,12 +119,12 @@ pub fn contain(first: &[u8], second: &[u8], bound: u64, work: &mut [u8], word: &
         ⌝ }
 {
     let mut lefts = [0u8; 2048];
-    let one = file::read_into(first, &mut lefts);
+    let one = file::read(first, &mut lefts);
     if one.refusal != 0 {
         return Outcome::Refused(one.refusal, 1);
     }
     let mut rights = [0u8; 2048];
-    let two = file::read_into(second, &mut rights);
+    let two = file::read(second, &mut rights);
     if two.refusal != 0 {
         return Outcome::Refused(two.refusal, 2);
     }

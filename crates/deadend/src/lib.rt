@@ -1,9 +1,7 @@
 // The dead-end test, with sets of states as words: what each state's transitions lead to, what paths of them lead to, the accepting
 // states that lie on a loop, and the reachable states that have no path to one.
-use automaton::Automaton;
 use automaton::Head;
 use automaton::MAX_STATES;
-use automaton::head_of;
 ghost use mathlib.Core.Path.{_≡_};
 ghost use mathlib.Core.Bool.{false, _&&_, not};
 ghost use Prim.Native.Nat.{ℕ, _<_, _≤_};
@@ -104,7 +102,7 @@ fn dead_among(rows: &[u32], n: usize, reached: u32, loops: u32) -> u32
 }
 
 // The set of dead states of the automaton with this head and these transitions.
-pub fn dead_in(head: Head, transitions: &[u8; 2048]) -> u32
+pub fn dead_set(head: Head, transitions: &[u8; 2048]) -> u32
     requires { ⌜ InRange (wholeOf head (now transitions)) ⌝ }
     ensures { λ w. ⌜
         ((q : ℕ) → q < 32 → bit w q ≡ getD (deadStates (wholeOf head (now (transitions .entry)))) q false)
@@ -123,19 +121,11 @@ pub fn dead_in(head: Head, transitions: &[u8; 2048]) -> u32
 }
 
 // Whether the automaton with this head and these transitions has a dead state.
-pub fn has_dead_in(head: Head, transitions: &[u8; 2048]) -> bool
+pub fn has_dead(head: Head, transitions: &[u8; 2048]) -> bool
     requires { ⌜ InRange (wholeOf head (now transitions)) ⌝ }
     ensures { λ r. ⌜ r ≡ hasDead (wholeOf head (now (transitions .entry))) ⌝ }
 {
-    relations::has_state(dead_in(head, transitions))
-}
-
-// The set of dead states.
-pub fn dead_set(a: Automaton) -> u32
-    requires { ⌜ InRange a ⌝ }
-    ensures { λ w. ⌜ ((q : ℕ) → q < 32 → bit w q ≡ getD (deadStates a) q false) ⌝ }
-{
-    dead_in(head_of(a), &a.transitions)
+    relations::has_state(dead_set(head, transitions))
 }
 
 // For each of the 32 states whether the set has it.
@@ -152,17 +142,9 @@ fn flags(set: u32) -> [bool; MAX_STATES]
 }
 
 // For each of the 32 states whether it is dead.
-pub fn dead_states(a: Automaton) -> [bool; MAX_STATES]
-    requires { ⌜ InRange a ⌝ }
-    ensures { λ r. ⌜ r ≡ deadStates a ⌝ }
+pub fn dead_states(head: Head, transitions: &[u8; 2048]) -> [bool; MAX_STATES]
+    requires { ⌜ InRange (wholeOf head (now transitions)) ⌝ }
+    ensures { λ r. ⌜ r ≡ deadStates (wholeOf head (now (transitions .entry))) ⌝ }
 {
-    flags(dead_set(a))
-}
-
-// Whether a state is dead.
-pub fn has_dead(a: Automaton) -> bool
-    requires { ⌜ InRange a ⌝ }
-    ensures { λ r. ⌜ r ≡ hasDead a ⌝ }
-{
-    has_dead_in(head_of(a), &a.transitions)
+    flags(dead_set(head, transitions))
 }

@@ -25,7 +25,7 @@ use Rattle.graph.proofs.Unlisted.{discover-unlisted}
 use Rattle.discovery.specs.declared.Walked.{Walked}
 use Rattle.discovery.specs.declared.Walked.the-variants.{Going, Ended, Full}
 use Rattle.discovery.specs.declared.Sides.{Sides}
-use Rattle.discovery.specs.Representation.{vertexOf, Represents, Becomes, NoFewer, Takes, Grows, ClassKnown, sideOf, Keyed, SideReady, SidesReady}
+use Rattle.discovery.specs.Representation.{vertexOf, Represents, Becomes, NoFewer, Takes, Grows, ClassKnown, sideOf, SideReady, TargetReady, SidesReady}
 use Rattle.discovery.proofs.RepresentedSlots.{listed-represented}
 use Rattle.discovery.proofs.FoldLoops.{Stops, FoldLoops, onward-next, onward-stop, onward-end}
 
@@ -72,52 +72,34 @@ module _ (work work′ : List ℕ) (n m : ℕ) (v : Vertex) (G : Grows work n wo
       ∙ rw (e, d)
 
 -- What a loop over targets keeps: classes are known, sure as long as no slot was written, and the targets that are left are not listed.
-pub record TargetsReady (n : ℕ) (work : List ℕ) (count accepting rest : ℕ) (lowered others : List ℕ) (sides : Sides) : Type 0 where
-  pub low : Keyed lowered (sides .lowkey)
-  pub other : Keyed others (sides .otherkey)
-  pub low-known : (t : ℕ) → bit rest t ≡ true → bit accepting t ≡ true
-      → ClassKnown (sides .lowclass) (eqb count n) (classOf work lowered count)
-  pub other-known : (t : ℕ) → bit rest t ≡ true → bit accepting t ≡ false
-      → ClassKnown (sides .otherclass) (eqb count n) (classOf work others count)
-  pub unlisted : (t : ℕ) → bit rest t ≡ true → listedWith work (sideOf accepting lowered others t) count t ≡ false
-
 module _ (n accepting : ℕ) (lowered others : List ℕ) (sides : Sides) where
+  abbrev pub TargetsReady : List ℕ → ℕ → ℕ → Type 0
+  TargetsReady work count rest = (t : ℕ) → bit rest t ≡ true → TargetReady work count accepting lowered others sides (eqb count n) t
+
   pub targets-ready : (work : List ℕ) (targets : ℕ) → SidesReady work n accepting targets lowered others sides
-      → TargetsReady n work n accepting targets lowered others sides
-  targets-ready work targets S =
-      record {
-        low = S .low;
-        other = S .other;
-        low-known = λ t h a. record { where-sure = λ e. S .low-class t h a; where-some = λ s e. S .low-class t h a };
-        other-known = λ t h a. record { where-sure = λ e. S .other-class t h a; where-some = λ s e. S .other-class t h a };
-        unlisted = S .unlisted;
-      }
+      → TargetsReady work n targets
+  targets-ready work targets S t h = go (bit accepting t) refl (S .unlisted t h)
+    where
+      go : (b : Bool) → bit accepting t ≡ b → listedWith work (cond b lowered others) n t ≡ false
+          → SideReady work n t (cond b lowered others) (cond b (sides .lowkey) (sides .otherkey)) (cond b (sides .lowclass) (sides .otherclass))
+          (eqb n n)
+      go true a u = record { keyed = S .low; known = record { where-sure = λ e. S .low-class t h a; where-some = λ s e. S .low-class t h a }; unlisted = u }
+      go false a u =
+          record { keyed = S .other; known = record { where-sure = λ e. S .other-class t h a; where-some = λ s e. S .other-class t h a }; unlisted = u }
 
-  module _ (work : List ℕ) (count rest : ℕ) (R : TargetsReady n work count accepting rest lowered others sides) where
-    pub side-ready : (t : ℕ) → bit rest t ≡ true → SideReady work count accepting t lowered others sides (eqb count n)
-    side-ready t h =
-        record {
-          low = R .low;
-          other = R .other;
-          low-known = R .low-known t h;
-          other-known = R .other-known t h;
-          unlisted = R .unlisted t h;
-        }
-
+  module _ (work : List ℕ) (count rest : ℕ) (R : TargetsReady work count rest) where
     -- target t has taken a slot, and is left no longer
     pub targets-kept : (t rest′ m : ℕ) (work′ : List ℕ) → n ≤ count → ((k : ℕ) → bit rest′ k ≡ (bit rest k && not (eqb t k)))
         → Grows work count work′ (Going m) → Takes count (vertexOf t (sideOf accepting lowered others t)) work′ (Going m)
-        → TargetsReady n work′ m accepting rest′ lowered others sides
-    targets-kept t rest′ m work′ l less G K =
+        → TargetsReady work′ m rest′
+    targets-kept t rest′ m work′ l less G K k h =
+        let r = R k (left-too k h .0) in
         record {
-          low = R .low;
-          other = R .other;
-          low-known = λ k h a.
-              known-kept work work′ count m v G K (sides .lowclass) n (eqb count n) lowered l (R .low-known k (left-too k h .0) a);
-          other-known = λ k h a.
-              known-kept work work′ count m v G K (sides .otherclass) n (eqb count n) others l (R .other-known k (left-too k h .0) a);
-          unlisted = λ k h.
-              unlisted-kept work work′ count m v G K (sideOf accepting lowered others k) k (left-too k h .1) (R .unlisted k (left-too k h .0));
+          keyed = r .keyed;
+          known =
+              known-kept work work′ count m v G K (sideOf accepting (sides .lowclass) (sides .otherclass) k) n (eqb count n)
+              (sideOf accepting lowered others k) l (r .known);
+          unlisted = unlisted-kept work work′ count m v G K (sideOf accepting lowered others k) k (left-too k h .1) (r .unlisted);
         }
       where
         v : Vertex

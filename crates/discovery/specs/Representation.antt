@@ -8,8 +8,9 @@
 --   Takes n v work′ r          where the answer r goes on, v has taken slot n
 --   Grows work n work′ r       the slots below n are in work′ as in work, and the answer r lists no fewer than n
 --   ClassKnown class sure c    what is known of the class c: it is `class` where that is not 0, or where it is sure
---   sideOf                     the counters at a left target t: those of the one side where t accepts, and else those of the other
---   SideReady, SidesReady      keys and classes of both sides, and that the target, or each of the targets, is not listed
+--   sideOf                     what a left target t has of two sides: that of the one where t accepts, and else that of the other
+--   SideReady                  counters have this key, and this class as far as it is known, and the left target t is not listed with them
+--   TargetReady, SidesReady    the same of the side of t; keys and classes of both sides, and that none of the targets is listed
 -- Shown by `listed-represented` and `listed-left-out`. Assumes nothing.
 use mathlib.Core.Path.{_≡_}
 use mathlib.Core.Bool.{Bool, true, false, cond}
@@ -86,8 +87,8 @@ pub record ClassKnown (class : ℕ) (sure : Bool) (c : ℕ) : Type 0 where
   pub where-some : (s : ℕ) → class ≡ suc s → class ≡ c
 
 -- accepting are the left states that accept
-abbrev pub sideOf : ℕ → List ℕ → List ℕ → ℕ → List ℕ
-sideOf accepting lowered others t = cond (bit accepting t) lowered others
+abbrev pub sideOf : {A : Type 0} → ℕ → A → A → ℕ → A
+sideOf accepting low other t = cond (bit accepting t) low other
 
 -- counters with their key
 pub record Keyed (cs : List ℕ) (key : ℕ) : Type 0 where
@@ -95,12 +96,16 @@ pub record Keyed (cs : List ℕ) (key : ℕ) : Type 0 where
   pub key-is : key ≡ keyOf cs
   pub key-below : key < keys
 
-pub record SideReady (work : List ℕ) (n accepting t : ℕ) (lowered others : List ℕ) (sides : Sides) (sure : Bool) : Type 0 where
-  pub low : Keyed lowered (sides .lowkey)
-  pub other : Keyed others (sides .otherkey)
-  pub low-known : bit accepting t ≡ true → ClassKnown (sides .lowclass) sure (classOf work lowered n)
-  pub other-known : bit accepting t ≡ false → ClassKnown (sides .otherclass) sure (classOf work others n)
-  pub unlisted : listedWith work (sideOf accepting lowered others t) n t ≡ false
+pub record SideReady (work : List ℕ) (n t : ℕ) (cs : List ℕ) (key class : ℕ) (sure : Bool) : Type 0 where
+  pub keyed : Keyed cs key
+  pub known : ClassKnown class sure (classOf work cs n)
+  pub unlisted : listedWith work cs n t ≡ false
+
+-- the side of the left target t
+abbrev pub TargetReady : List ℕ → ℕ → ℕ → List ℕ → List ℕ → Sides → Bool → ℕ → Type 0
+TargetReady work n accepting lowered others sides sure t =
+    SideReady work n t (sideOf accepting lowered others t) (sideOf accepting (sides .lowkey) (sides .otherkey) t)
+    (sideOf accepting (sides .lowclass) (sides .otherclass) t) sure
 
 pub record SidesReady (work : List ℕ) (n accepting targets : ℕ) (lowered others : List ℕ) (sides : Sides) : Type 0 where
   pub low : Keyed lowered (sides .lowkey)

@@ -12,10 +12,10 @@ ghost use Rattle.automaton.specs.Ranges.{those};
 ghost use Rattle.automaton.specs.Members.{nextFrom};
 ghost use Rattle.automaton.specs.Sets.{bit, leastMembers};
 ghost use Rattle.slots.specs.Slots.{slotCount};
-ghost use Rattle.classes.specs.Classes.{classOf, listedWith, keyOf, keys, Chained};
+ghost use Rattle.classes.specs.Classes.{classOf, keyOf, keys, Chained};
 ghost use Rattle.graph.specs.Discovery.{below, discover as discovering, discoverAll};
 ghost use Rattle.graph.specs.LagGraph.{lagGraph};
-ghost use Rattle.discovery.specs.Representation.{vertexOf, Becomes, Ready, ReadyAfter, Takes, Grows, ClassKnown, sideOf, SideReady, SidesReady};
+ghost use Rattle.discovery.specs.Representation.{vertexOf, Becomes, Ready, ReadyAfter, Takes, Grows, ClassKnown, sideOf, SideReady, TargetReady, SidesReady};
 use slots::Vertex;
 
 // How the discovery list stands: no final vertex among the vertices listed, with their number; the place of the final vertex
@@ -99,8 +99,7 @@ fn discover(
 ) -> Walked
     requires { ⌜
         Ready (now work) (now heads) (now nexts) (now listed) n × (p < 65536) × (left < maxStates)
-        × (length (now counters) ≡ maxStates) × (key ≡ keyOf (now counters)) × (key < keys)
-        × ClassKnown class sure (classOf (now work) (now counters) n) × (listedWith (now work) (now counters) n left ≡ false)
+        × SideReady (now work) n left (now counters) key class sure
         ⌝ }
     ensures represents { λ r. ⌜
         ((A B : Automaton) (b : ℕ) → Becomes (now (work .entry)) n (now (work .exit)) r
@@ -130,7 +129,7 @@ fn discover(
 
 // The successor of the vertex at place p at a left target that is not listed. Targets that accept have the counters `lowered`, the others have
 // `others`.
-fn discover_target(
+fn discover_target<'a>(
     work: &mut [u8],
     heads: &mut [u16],
     nexts: &mut [u16],
@@ -140,14 +139,14 @@ fn discover_target(
     letter: u8,
     accepting: u32,
     t: usize,
-    lowered: &[u8; 32],
-    others: &[u8; 32],
+    lowered: &'a [u8; 32],
+    others: &'a [u8; 32],
     sides: Sides,
     sure: bool,
 ) -> Walked
     requires { ⌜
         Ready (now work) (now heads) (now nexts) (now listed) n × (p < 65536) × (t < maxStates)
-        × SideReady (now work) n accepting t (now lowered) (now others) sides «sure»
+        × TargetReady (now work) n accepting (now lowered) (now others) sides sure t
         ⌝ }
     ensures represents { λ r. ⌜
         ((A B : Automaton) (b : ℕ) → Becomes (now (work .entry)) n (now (work .exit)) r
@@ -160,22 +159,13 @@ fn discover_target(
         Takes n (vertexOf t (sideOf accepting (now (lowered .entry)) (now (others .entry)) t)) (now (work .exit)) r
         ⌝ }
 {
-    let left = t as u8;
+    let mut counters = others;
+    let mut key = sides.otherkey;
+    let mut class = sides.otherclass;
     if relations::has(accepting, t) {
-        return discover(
-            work,
-            heads,
-            nexts,
-            listed,
-            n,
-            p,
-            letter,
-            left,
-            lowered,
-            sides.lowkey,
-            sides.lowclass,
-            sure,
-        );
+        counters = lowered;
+        key = sides.lowkey;
+        class = sides.lowclass;
     }
     discover(
         work,
@@ -185,17 +175,17 @@ fn discover_target(
         n,
         p,
         letter,
-        left,
-        others,
-        sides.otherkey,
-        sides.otherclass,
+        t as u8,
+        counters,
+        key,
+        class,
         sure,
     )
 }
 
 // The successors of the vertex at place p at these left targets, none of which is listed, lowest first. Targets that accept have the counters
 // `lowered`, the others have `others`.
-pub fn discover_targets(
+pub fn discover_targets<'a>(
     work: &mut [u8],
     heads: &mut [u16],
     nexts: &mut [u16],
@@ -205,8 +195,8 @@ pub fn discover_targets(
     letter: u8,
     accepting: u32,
     targets: u32,
-    lowered: &[u8; 32],
-    others: &[u8; 32],
+    lowered: &'a [u8; 32],
+    others: &'a [u8; 32],
     sides: Sides,
     table: &[u8; 256],
 ) -> Walked

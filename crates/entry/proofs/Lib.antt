@@ -1,3 +1,4 @@
--- What the checks of an offer and its two walks come to.
+-- What open and the checks of an offer come to, and the two walks.
+pub mod OpenPassed
 pub mod OfferPassed
 pub mod BothWalks

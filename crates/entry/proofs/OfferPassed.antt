@@ -1,69 +1,88 @@
--- What the checks of an offer come to: a refusal's number is not 0, and an offer that passes them is in range, at a bound of 0 to 14, and
--- made to a well-formed entry. Assumes nothing.
-use mathlib.Core.Path.{_≡_, refl, sym, ap, subst, _∙_}
-use mathlib.Core.Bool.{_||_, not}
+-- What the checks of an offer come to: the first of them that stops it gives the number, past the reading the vetting decides, and an offer
+-- that passes the vetting is made at a bound of 0 to 14; and what the whole call gives by them. Assumes nothing.
+use mathlib.Core.Path.{_≡_, sym, ap, subst, _∙_}
+use mathlib.Core.Bool.{true, false, cond}
 use mathlib.Core.List.{List}
-use Prim.Native.Nat.{ℕ, _≤_, _<_}
-use native.Mathlib.Omega.{arith}
-use borrow.Author.Tests.{ltb-false, not-false}
-use lib.Dec.{eqb, ltb}
+use Prim.Native.Nat.{ℕ, _≤_}
+use borrow.Author.Tests.{ltb-false, eq-eqb, ne-eqb}
+use lib.Dec.{ltb}
 use Rattle.automaton.specs.declared.Automaton.{Automaton}
-use Rattle.automaton.specs.Automata.{InRange}
-use Rattle.format.specs.File.{readFile}
-use Rattle.format.proofs.FileLaws.{file-in-range, file-refusals}
-use Rattle.deadstates.specs.DeadEnds.{hasDead}
+use Rattle.format.specs.File.{refused, holds, readFile}
 use Rattle.graph.specs.LagGraph.{maxBound}
-use Rattle.answers.proofs.ChecksLaws.{by-test, by-read}
+use Rattle.answers.proofs.ChecksLaws.{by-test}
 use Rattle.history.specs.declared.Entry.{Entry}
-use Rattle.entry.specs.declared.Checked.{Checked}
-use Rattle.history.specs.Entries.{maxEdition, WellFormed, malformed, smaller}
+use Rattle.history.specs.Entries.{malformed}
 use Rattle.history.specs.Opens.{Vetted, stopped, passed}
-use Rattle.history.specs.Offers.{offerChecks}
-use Rattle.entry.specs.Vetting.{checkedOf}
-use Rattle.history.proofs.EntryChecks.{passed-well-formed}
+use Rattle.history.specs.declared.OfferAnswer.{OfferAnswer}
+use Rattle.history.specs.declared.OfferAnswer.the-variants.{Refused}
+use Rattle.history.specs.Offers.{offerVetting, offerChecks, walksOf, walksAnswer, walksWork, walksWord, entryOn, offerOf}
+use Rattle.history.specs.OfferDemand.{OfferDemand1}
+use Rattle.history.proofs.CallDemands.{offer-demand-1}
+use Rattle.entry.specs.Vetting.{vettedBy}
 
-pub record Passing (E : Entry) (b : ℕ) (B : Automaton) : Type 0 where
-  pub well-formed : WellFormed E
-  pub offer-in-range : InRange B
-  pub bounded : b ≤ maxBound
+-- The checks in their order.
 
-abbrev Vets : Entry → ℕ → Vetted → Type 0
-Vets E b (stopped n) = 0 < n
-Vets E b (passed B) = Passing E b B
+module _ (E : Entry) (f : List ℕ) (b : ℕ) where
+  pub malformed-stops : malformed E ≡ true → offerChecks E f b ≡ stopped 9
+  unfolding offerChecks
+  malformed-stops m = rw m
 
-checks-vet : (E : Entry) (f : List ℕ) (b : ℕ) → Vets E b (offerChecks E f b)
-unfolding offerChecks
-checks-vet E f b =
-    by-test (Vets E b) (malformed E) (stopped 9) _ (λ _. omega arith) λ m.
-    by-test (Vets E b) (not (E .filled)) (stopped 13) _ (λ _. omega arith) λ e.
-    by-read (Vets E b) (readFile f) stopped _ (λ n r. omega (arith, file-refusals f n r .0)) λ B r.
-    by-test (Vets E b) (ltb maxBound b) (stopped 8) _ (λ _. omega arith) λ t.
-    by-test (Vets E b) (not (eqb (E .held .letters) (B .letters))) (stopped 7) _ (λ _. omega arith) λ _.
-    by-test (Vets E b) (hasDead B) (stopped 6) _ (λ _. omega arith) λ _.
-    by-test (Vets E b) (not (smaller B (E .held)) || eqb (E .edition) maxEdition) (stopped 14) (passed B) (λ _. omega arith) λ _.
-    record {
-      well-formed = passed-well-formed E m (not-false (E .filled) e);
-      offer-in-range = file-in-range f B r;
-      bounded = ltb-false maxBound b t;
-    }
+  module _ (m : malformed E ≡ false) where
+    pub empty-stops : E .filled ≡ false → offerChecks E f b ≡ stopped 13
+    unfolding offerChecks
+    empty-stops e = rw (m, e)
 
-module _ (E : Entry) (f : List ℕ) (b : ℕ) (r : Checked) (is : r ≡ checkedOf (offerChecks E f b)) where
-  pub checked-stopped : (r .refusal ≡ 0 → ⊥) → offerChecks E f b ≡ stopped (r .refusal)
-  checked-stopped z = go (offerChecks E f b) refl
-    where
-      go : (v : Vetted) → offerChecks E f b ≡ v → offerChecks E f b ≡ stopped (r .refusal)
-      go (stopped n) e = e ∙ ap stopped (sym (ap (λ (y : Checked). y .refusal) (is ∙ ap checkedOf e)))
-      go (passed B) e = absurd (z (ap (λ (y : Checked). y .refusal) (is ∙ ap checkedOf e)))
+    module _ (e : E .filled ≡ true) where
+      pub file-stops : (n : ℕ) → readFile f ≡ refused n → offerChecks E f b ≡ stopped n
+      unfolding offerChecks
+      file-stops n r = rw (m, e, r)
 
-  pub checked-passed : r .refusal ≡ 0 → offerChecks E f b ≡ passed (r .automaton)
-  checked-passed z = go (offerChecks E f b) refl
-    where
-      go : (v : Vetted) → offerChecks E f b ≡ v → offerChecks E f b ≡ passed (r .automaton)
-      go (stopped n) e =
-          let n-is : r .refusal ≡ n = ap (λ (y : Checked). y .refusal) (is ∙ ap checkedOf e) in
-          let more : 0 < n = subst (Vets E b) e (checks-vet E f b) in
-          absurd (omega arith)
-      go (passed B) e = e ∙ ap passed (sym (ap (λ (y : Checked). y .automaton) (is ∙ ap checkedOf e)))
+      pub vetting-decides : (B : Automaton) → readFile f ≡ holds B → offerChecks E f b ≡ offerVetting E b B
+      unfolding offerChecks
+      vetting-decides B r = rw (m, e, r)
 
-  pub checked-passing : r .refusal ≡ 0 → Passing E b (r .automaton)
-  checked-passing z = subst (Vets E b) (checked-passed z) (checks-vet E f b)
+-- The vetting that gives the number n.
+
+abbrev Bounded : ℕ → Vetted → Type 0
+Bounded b (stopped n) = Unit {0}
+Bounded b (passed B) = b ≤ maxBound
+
+bounded-either : (b : ℕ) (v : Vetted) → b ≤ maxBound → Bounded b v
+bounded-either b (stopped n) h = tt
+bounded-either b (passed B) h = h
+
+past-eight : (b : ℕ) (v : Vetted) → Bounded b (cond (ltb maxBound b) (stopped 8) v)
+past-eight b v =
+    by-test (Bounded b) (ltb maxBound b) (stopped 8) v (λ _. tt) λ t. bounded-either b v (ltb-false maxBound b t)
+
+module _ (E : Entry) (b : ℕ) (B : Automaton) (n : ℕ) (is : vettedBy n B ≡ offerVetting E b B) where
+  pub vetting-stops : (n ≡ 0 → ⊥) → offerVetting E b B ≡ stopped n
+  vetting-stops z = sym is ∙ rw (ne-eqb n 0 z)
+
+  pub vetting-passes : n ≡ 0 → offerVetting E b B ≡ passed B
+  vetting-passes z = sym is ∙ rw (eq-eqb n 0 z)
+
+  pub vetted-bound : n ≡ 0 → b ≤ maxBound
+  vetted-bound z = subst (Bounded b) (vetting-passes z) (past-eight b _)
+
+-- The whole call.
+
+module _ (E : Entry) (f : List ℕ) (b : ℕ) (work word : List ℕ) where
+  -- answer, entry and buffers of the offer, and its demand 1
+  abbrev pub Gives : OfferAnswer → Entry → List ℕ → List ℕ → Type 0
+  Gives x F s t =
+      (x ≡ offerOf E f b work word .answer)
+      × ((F ≡ offerOf E f b work word .entry)
+      × ((s ≡ offerOf E f b work word .work) × ((t ≡ offerOf E f b work word .word) × OfferDemand1 E f b work word)))
+
+  pub stopped-gives : (n : ℕ) (x : OfferAnswer) (F : Entry) → offerChecks E f b ≡ stopped n → x ≡ Refused n → F ≡ E
+      → Gives x F work word
+  unfolding offerOf
+  stopped-gives n x F e p q = (rw e p, (rw e q, (rw e, (rw e, offer-demand-1 E f b work word))))
+
+  pub passed-gives : (B : Automaton) (y x : OfferAnswer) (F : Entry) (s t : List ℕ) → offerChecks E f b ≡ passed B
+      → y ≡ walksAnswer (walksOf (E .held) B b work word) → s ≡ walksWork (walksOf (E .held) B b work word)
+      → t ≡ walksWord (walksOf (E .held) B b work word) → x ≡ y → F ≡ entryOn E B y → Gives x F s t
+  unfolding offerOf
+  passed-gives B y x F s t e w u v p q =
+      (rw e (p ∙ w), (rw e (q ∙ ap (entryOn E B) w), (rw e u, (rw e v, offer-demand-1 E f b work word))))

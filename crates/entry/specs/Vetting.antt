@@ -1,9 +1,11 @@
--- What the checks of an offer give, as the code has it: a refusal's number, or 0 and the file's automaton; with a refusal the
--- automaton field holds zeros, as it does in the reader's struct. Nothing settles it: only contracts between functions name it. Assumes nothing.
-use Rattle.automaton.specs.Automata.{bare}
-use Rattle.entry.specs.declared.Checked.{Checked}
+-- What the checks of an offered automaton give, as the code has it: a refusal's number, or 0 where there is none.
+--   vettedBy n B   the refusal n, or the automaton B where n is 0
+-- Nothing settles it: only contracts between functions name it. Assumes nothing.
+use mathlib.Core.Bool.{cond}
+use Prim.Native.Nat.{ℕ}
+use lib.Dec.{eqb}
+use Rattle.automaton.specs.declared.Automaton.{Automaton}
 use Rattle.history.specs.Opens.{Vetted, stopped, passed}
 
-abbrev pub checkedOf : Vetted → Checked
-checkedOf (stopped n) = record { refusal = n; automaton = bare 0 0 0 }
-checkedOf (passed A) = record { refusal = 0; automaton = A }
+abbrev pub vettedBy : ℕ → Automaton → Vetted
+vettedBy n B = cond (eqb n 0) (passed B) (stopped n)

@@ -1,25 +1,24 @@
 // The offer call on an entry.
-use crate::Checked;
+use crate::OfferResult;
 use answers::Comparison;
-use automaton::Automaton;
+use automaton::Head;
 use conditions::MAX_EDITION;
 use conditions::malformed;
 use conditions::smaller;
 use contain::MAX_BOUND;
-use contain::compare_automata;
-use history::Entry;
+use contain::compare;
+use history::EntryHead;
 use history::OfferAnswer;
-use history::OfferResult;
 ghost use mathlib.Core.Path.{_≡_};
-ghost use Prim.Native.Nat.{_≤_};
+ghost use Prim.Native.Nat.{ℕ, _≤_};
+ghost use mathlib.Core.List.{List};
 ghost use lib.ListN.{length, take};
 ghost use denote.Ref.{ptr};
-ghost use Rattle.automaton.specs.Automata.{InRange};
+ghost use Rattle.automaton.specs.Automata.{wholeOf, InRange};
 ghost use Rattle.graph.specs.LagGraph.{maxBound};
-ghost use Rattle.history.specs.Entries.{maxEdition};
-ghost use Rattle.history.specs.Opens.{stopped};
+ghost use Rattle.history.specs.Entries.{maxEdition, entryWith};
 ghost use Rattle.history.specs.Offers.{
-  offerChecks,
+  offerVetting,
   backAnswer,
   walksOf,
   walksAnswer,
@@ -32,52 +31,33 @@ ghost use Rattle.history.specs.Offers.{
   partLength,
 };
 ghost use Rattle.history.specs.OfferDemand.{OfferDemand1};
-ghost use Rattle.entry.specs.Vetting.{checkedOf};
+ghost use Rattle.history.specs.declared.OfferAnswer.the-variants.{Refused};
+ghost use Rattle.entry.specs.Vetting.{vettedBy};
 
-// An offer that the checks refuse.
-fn stopped(number: usize) -> Checked
-    ensures { λ r. ⌜ r ≡ checkedOf (stopped number) ⌝ }
+// The checks of the offered automaton: a refusal's number, or 0.
+fn vet(entry: EntryHead, held: &[u8; 2048], offer: Head, offers: &[u8; 2048], bound: u64) -> usize
+    requires { ⌜ InRange (wholeOf (entry .held) (now held)) × InRange (wholeOf offer (now offers)) ⌝ }
+    ensures { λ r. ⌜
+        vettedBy r (wholeOf offer (now (offers .entry)))
+        ≡ offerVetting (entryWith entry (now (held .entry))) bound (wholeOf offer (now (offers .entry)))
+        ⌝ }
 {
-    Checked {
-        refusal: number,
-        automaton: automaton::bare(0, 0, 0),
-    }
-}
-
-// The checks of an offer before the walks.
-pub fn offer_checks(entry: Entry, file: &[u8], bound: u64) -> Checked
-    ensures { λ r. ⌜ r ≡ checkedOf (offerChecks entry (now (file .entry)) bound) ⌝ }
-{
-    if malformed(entry) {
-        return stopped(9);
-    }
-    if !entry.filled {
-        return stopped(13);
-    }
-    let reading = file::read(file);
-    let offer = reading.automaton;
-    if reading.refusal != 0 {
-        return stopped(reading.refusal);
-    }
     if bound > MAX_BOUND {
-        return stopped(8);
+        return 8;
     }
     if entry.held.letters != offer.letters {
-        return stopped(7);
+        return 7;
     }
-    if deadend::has_dead(offer) {
-        return stopped(6);
+    if deadend::has_dead(offer, offers) {
+        return 6;
     }
-    if !smaller(offer, entry.held) {
-        return stopped(14);
+    if !smaller(offer, offers, entry.held, held) {
+        return 14;
     }
     if entry.edition == MAX_EDITION {
-        return stopped(14);
+        return 14;
     }
-    Checked {
-        refusal: 0,
-        automaton: offer,
-    }
+    0
 }
 
 // The answer by the back walk, after a forward walk of so many vertices.
@@ -94,20 +74,33 @@ fn back_answer(count: usize, back: Comparison) -> OfferAnswer
 
 // The forward walk and, where it finds containment, the back walk, which begins in slot 0 again.
 fn walk_both(
-    held: Automaton,
-    offer: Automaton,
+    held: Head,
+    helds: &[u8; 2048],
+    offer: Head,
+    offers: &[u8; 2048],
     bound: usize,
     work: &mut [u8],
     word: &mut [u8],
 ) -> OfferAnswer
-    requires { ⌜ InRange held × InRange offer × (bound ≤ maxBound) ⌝ }
-    ensures answer { λ r. ⌜ r ≡ walksAnswer (walksOf held offer bound (now (work .entry)) (now (word .entry))) ⌝ }
-    ensures work { λ r. ⌜ now (work .exit) ≡ walksWork (walksOf held offer bound (now (work .entry)) (now (word .entry))) ⌝ }
-    ensures word { λ r. ⌜ now (word .exit) ≡ walksWord (walksOf held offer bound (now (work .entry)) (now (word .entry))) ⌝ }
+    requires { ⌜ InRange (wholeOf held (now helds)) × InRange (wholeOf offer (now offers)) × (bound ≤ maxBound) ⌝ }
+    ensures answer { λ r. ⌜
+        r ≡ walksAnswer (walksOf (wholeOf held (now (helds .entry))) (wholeOf offer (now (offers .entry))) bound (now (work .entry)) (now (word .entry)))
+        ⌝ }
+    ensures work { λ r. ⌜
+        now (work .exit)
+        ≡ walksWork (walksOf (wholeOf held (now (helds .entry))) (wholeOf offer (now (offers .entry))) bound (now (work .entry)) (now (word .entry)))
+        ⌝ }
+    ensures word { λ r. ⌜
+        now (word .exit)
+        ≡ walksWord (walksOf (wholeOf held (now (helds .entry))) (wholeOf offer (now (offers .entry))) bound (now (work .entry)) (now (word .entry)))
+        ⌝ }
 {
-    match compare_automata(held, offer, bound, work, word) {
+    match compare(held, helds, offer, offers, bound, work, word) {
         Comparison::Contained(count) => {
-            back_answer(count, compare_automata(offer, held, bound, work, word))
+            back_answer(
+                count,
+                compare(offer, offers, held, helds, bound, work, word),
+            )
         }
         Comparison::Differs(place, len) => OfferAnswer::Forward(place, len),
         Comparison::NoSlots(slots) => OfferAnswer::NoSlots(1, slots),
@@ -129,12 +122,22 @@ pub fn is_taken(answer: OfferAnswer) -> bool
     }
 }
 
-// The entry after the offer is taken.
-fn next_edition(entry: Entry, offer: Automaton) -> Entry
-    requires { ⌜ entry .edition ≤ maxEdition ⌝ }
-    ensures { λ r. ⌜ r ≡ nextEdition entry offer ⌝ }
+// An offer that the checks refuse.
+fn refused(entry: EntryHead, number: usize) -> OfferResult
+    ensures { λ r. ⌜ (r .answer ≡ Refused number) × (r .entry ≡ entry) ⌝ }
 {
-    Entry {
+    OfferResult {
+        answer: OfferAnswer::Refused(number),
+        entry,
+    }
+}
+
+// The entry after the offer is taken, of which this is the head.
+fn next_edition(entry: EntryHead, offer: Head) -> EntryHead
+    requires { ⌜ entry .edition ≤ maxEdition ⌝ }
+    ensures { λ r. ⌜ ((t u : List ℕ) → entryWith r u ≡ nextEdition (entryWith entry t) (wholeOf offer u)) ⌝ }
+{
+    EntryHead {
         filled: true,
         edition: entry.edition + 1,
         first: entry.first,
@@ -142,12 +145,22 @@ fn next_edition(entry: Entry, offer: Automaton) -> Entry
     }
 }
 
-// The answer of the walks with the entry that it leaves.
-fn settle(entry: Entry, offer: Automaton, answer: OfferAnswer) -> OfferResult
+// The answer of the walks with the entry that it leaves: the offer's transitions are held where it is taken.
+fn settle(
+    entry: EntryHead,
+    held: &mut [u8; 2048],
+    offer: Head,
+    offers: &[u8; 2048],
+    answer: OfferAnswer,
+) -> OfferResult
     requires { ⌜ entry .edition ≤ maxEdition ⌝ }
-    ensures { λ r. ⌜ (r .answer ≡ answer) × (r .entry ≡ entryOn entry offer answer) ⌝ }
+    ensures answer { λ r. ⌜ r .answer ≡ answer ⌝ }
+    ensures entry { λ r. ⌜
+        entryWith (r .entry) (now (held .exit)) ≡ entryOn (entryWith entry (now (held .entry))) (wholeOf offer (now (offers .entry))) answer
+        ⌝ }
 {
     if is_taken(answer) {
+        *held = *offers;
         OfferResult {
             answer,
             entry: next_edition(entry, offer),
@@ -157,39 +170,60 @@ fn settle(entry: Entry, offer: Automaton, answer: OfferAnswer) -> OfferResult
     }
 }
 
-// Offers the file's automaton as the next edition: the answer, the entry, every byte of work and word, and demand 1 in its own words.
+// Offers the file's automaton as the next edition: the answer, the entry, every byte of work and word, and demand 1 in its own words. The held
+// transitions are written where the offer is taken.
 pub fn offer_entry(
-    entry: Entry,
+    entry: EntryHead,
+    held: &mut [u8; 2048],
     file: &[u8],
     bound: u64,
     work: &mut [u8],
     word: &mut [u8],
 ) -> OfferResult
     ensures answer { λ r. ⌜
-        r .answer ≡ offerOf entry (now (file .entry)) bound (now (work .entry)) (now (word .entry)) .answer
+        r .answer ≡ offerOf (entryWith entry (now (held .entry))) (now (file .entry)) bound (now (work .entry)) (now (word .entry)) .answer
         ⌝ }
     ensures entry { λ r. ⌜
-        r .entry ≡ offerOf entry (now (file .entry)) bound (now (work .entry)) (now (word .entry)) .entry
+        entryWith (r .entry) (now (held .exit))
+        ≡ offerOf (entryWith entry (now (held .entry))) (now (file .entry)) bound (now (work .entry)) (now (word .entry)) .entry
         ⌝ }
     ensures work { λ r. ⌜
-        now (work .exit) ≡ offerOf entry (now (file .entry)) bound (now (work .entry)) (now (word .entry)) .work
+        now (work .exit)
+        ≡ offerOf (entryWith entry (now (held .entry))) (now (file .entry)) bound (now (work .entry)) (now (word .entry)) .work
         ⌝ }
     ensures word { λ r. ⌜
-        now (word .exit) ≡ offerOf entry (now (file .entry)) bound (now (work .entry)) (now (word .entry)) .word
+        now (word .exit)
+        ≡ offerOf (entryWith entry (now (held .entry))) (now (file .entry)) bound (now (work .entry)) (now (word .entry)) .word
         ⌝ }
     ensures demand1 { λ r. ⌜
-        OfferDemand1 entry (now (file .entry)) bound (now (work .entry)) (now (word .entry))
+        OfferDemand1 (entryWith entry (now (held .entry))) (now (file .entry)) bound (now (work .entry)) (now (word .entry))
         ⌝ }
 {
-    let checked = offer_checks(entry, file, bound);
-    if checked.refusal != 0 {
-        return OfferResult {
-            answer: OfferAnswer::Refused(checked.refusal),
-            entry,
-        };
+    if malformed(entry, held) {
+        return refused(entry, 9);
     }
-    let answer = walk_both(entry.held, checked.automaton, bound as usize, work, word);
-    settle(entry, checked.automaton, answer)
+    if !entry.filled {
+        return refused(entry, 13);
+    }
+    let mut offers = [0u8; 2048];
+    let reading = file::read(file, &mut offers);
+    if reading.refusal != 0 {
+        return refused(entry, reading.refusal);
+    }
+    let refusal = vet(entry, held, reading.head, &offers, bound);
+    if refusal != 0 {
+        return refused(entry, refusal);
+    }
+    let answer = walk_both(
+        entry.held,
+        held,
+        reading.head,
+        &offers,
+        bound as usize,
+        work,
+        word,
+    );
+    settle(entry, held, reading.head, &offers, answer)
 }
 
 // The length of the word that an answer comes with: 0 where there is no word.

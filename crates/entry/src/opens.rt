@@ -1,16 +1,21 @@
 // The open call on an entry.
-use automaton::Automaton;
+use crate::OpenResult;
+use automaton::Head;
 use conditions::malformed;
-use history::Entry;
+use history::EntryHead;
 use history::OpenAnswer;
-use history::OpenResult;
 ghost use mathlib.Core.Path.{_≡_};
+ghost use Rattle.automaton.specs.Automata.{wholeOf};
+ghost use Rattle.history.specs.Entries.{entryWith};
 ghost use Rattle.history.specs.OpenDemand.{OpenDemand1};
-ghost use Rattle.history.specs.Opens.{stopped, firstEdition, opened, openOf};
+ghost use Rattle.history.specs.Opens.{firstEdition, openOf};
+ghost use Rattle.history.specs.declared.OpenAnswer.the-variants.{Refused};
+ghost use Prim.Native.Nat.{ℕ};
+ghost use mathlib.Core.List.{List};
 
 // The entry stays where open is refused.
-fn refused(entry: Entry, number: usize) -> OpenResult
-    ensures { λ r. ⌜ r ≡ opened entry (stopped number) ⌝ }
+fn refused(entry: EntryHead, number: usize) -> OpenResult
+    ensures { λ r. ⌜ (r .answer ≡ Refused number) × (r .entry ≡ entry) ⌝ }
 {
     OpenResult {
         answer: OpenAnswer::Refused(number),
@@ -18,38 +23,42 @@ fn refused(entry: Entry, number: usize) -> OpenResult
     }
 }
 
-// The entry of an opened automaton.
-fn first_edition(automaton: Automaton) -> Entry
-    ensures { λ r. ⌜ r ≡ firstEdition automaton ⌝ }
+// The entry of an opened automaton, of which this is the head.
+fn first_edition(head: Head) -> EntryHead
+    ensures { λ r. ⌜ ((t : List ℕ) → entryWith r t ≡ firstEdition (wholeOf head t)) ⌝ }
 {
-    Entry {
+    EntryHead {
         filled: true,
         edition: 0,
-        first: automaton.states,
-        held: automaton,
+        first: head.states,
+        held: head,
     }
 }
 
-// Opens an empty entry with the file's automaton: the answer, the entry, and demand 1 in its own words.
-pub fn open_entry(entry: Entry, file: &[u8]) -> OpenResult
-    ensures result { λ r. ⌜ r ≡ openOf entry (now (file .entry)) ⌝ }
-    ensures demand1 { λ r. ⌜ OpenDemand1 entry (now (file .entry)) ⌝ }
+// Opens an empty entry with the file's automaton: the answer, the entry, and demand 1 in its own words. The held transitions are written where
+// the entry is opened.
+pub fn open_entry(entry: EntryHead, held: &mut [u8; 2048], file: &[u8]) -> OpenResult
+    ensures answer { λ r. ⌜ r .answer ≡ openOf (entryWith entry (now (held .entry))) (now (file .entry)) .answer ⌝ }
+    ensures entry { λ r. ⌜ entryWith (r .entry) (now (held .exit)) ≡ openOf (entryWith entry (now (held .entry))) (now (file .entry)) .entry ⌝ }
+    ensures demand1 { λ r. ⌜ OpenDemand1 (entryWith entry (now (held .entry))) (now (file .entry)) ⌝ }
 {
-    if malformed(entry) {
+    if malformed(entry, held) {
         return refused(entry, 9);
     }
     if entry.filled {
         return refused(entry, 12);
     }
-    let reading = file::read(file);
+    let mut transitions = [0u8; 2048];
+    let reading = file::read(file, &mut transitions);
     if reading.refusal != 0 {
         return refused(entry, reading.refusal);
     }
-    if deadend::has_dead(reading.automaton) {
+    if deadend::has_dead(reading.head, &transitions) {
         return refused(entry, 6);
     }
+    *held = transitions;
     OpenResult {
         answer: OpenAnswer::Opened,
-        entry: first_edition(reading.automaton),
+        entry: first_edition(reading.head),
     }
 }

@@ -6,9 +6,8 @@ use Prim.Native.Nat.{ℕ}
 use native.Mathlib.Omega.{arith}
 use Rattle.automaton.specs.Automata.{InRange, wholeOf}
 use Rattle.file.specs.declared.Reading.{Reading}
-use Rattle.file.specs.declared.Begun.{Begun}
 use Rattle.format.specs.File.{Read, refused, holds, readFile}
-use Rattle.file.specs.Taking.{automatonRead, refusalOf, readingOf}
+use Rattle.file.specs.Taking.{automatonRead, refusalOf}
 use Rattle.format.proofs.FileLaws.{file-refusals, file-in-range}
 use Rattle.file.proofs.LeftAutomata.{held-automaton}
 
@@ -29,36 +28,15 @@ module _ (s : List ℕ) where
       go (refused n) e = e ∙ ap refused (sym (ap refusalOf e))
       go (holds A) e = absurd (z (ap refusalOf e))
 
--- The answer of `read`.
+-- The answer of `read`, with t the transitions that it leaves.
 
-module _ (s : List ℕ) (r : Reading) (is : r ≡ readingOf (readFile s)) where
-  number : r .refusal ≡ refusalOf (readFile s)
-  number = ap (λ (y : Reading). y .refusal) is ∙ go (readFile s)
-    where
-      go : (x : Read) → readingOf x .refusal ≡ refusalOf x
-      go (refused n) = refl
-      go (holds A) = refl
-
-  pub reading-holds : r .refusal ≡ 0 → readFile s ≡ holds (r .automaton)
-  reading-holds z =
-      let e = read-holds s (sym number ∙ z) in
-      e ∙ ap holds (sym (ap (λ (y : Reading). y .automaton) (is ∙ ap readingOf e)))
+module _ (s : List ℕ) (r : Reading) (t : List ℕ) (number : r .refusal ≡ refusalOf (readFile s))
+    (left : wholeOf (r .head) t ≡ automatonRead s) where
+  pub reading-holds : r .refusal ≡ 0 → readFile s ≡ holds (wholeOf (r .head) t)
+  reading-holds z = read-holds s (sym number ∙ z) ∙ ap holds (sym left)
 
   pub reading-refuses : (r .refusal ≡ 0 → ⊥) → readFile s ≡ refused (r .refusal)
   reading-refuses z = read-refuses s (λ e. z (number ∙ e)) ∙ ap refused (sym number)
 
-  pub reading-in-range : r .refusal ≡ 0 → InRange (r .automaton)
-  reading-in-range z = file-in-range s (r .automaton) (reading-holds z)
-
--- The answer of `read_into`, with t the transitions that it leaves.
-
-module _ (s : List ℕ) (r : Begun) (t : List ℕ) (number : r .refusal ≡ refusalOf (readFile s))
-    (left : wholeOf (r .head) t ≡ automatonRead s) where
-  pub begun-holds : r .refusal ≡ 0 → readFile s ≡ holds (wholeOf (r .head) t)
-  begun-holds z = read-holds s (sym number ∙ z) ∙ ap holds (sym left)
-
-  pub begun-refuses : (r .refusal ≡ 0 → ⊥) → readFile s ≡ refused (r .refusal)
-  begun-refuses z = read-refuses s (λ e. z (number ∙ e)) ∙ ap refused (sym number)
-
-  pub begun-in-range : r .refusal ≡ 0 → InRange (wholeOf (r .head) t)
-  begun-in-range z = file-in-range s (wholeOf (r .head) t) (begun-holds z)
+  pub reading-in-range : r .refusal ≡ 0 → InRange (wholeOf (r .head) t)
+  reading-in-range z = file-in-range s (wholeOf (r .head) t) (reading-holds z)

@@ -19,7 +19,7 @@ use Rattle.format.specs.declared.Record.{Record}
 use Rattle.format.specs.declared.Record.the-variants.{Accepting, Transition}
 use Rattle.format.specs.Marks.{marked, headerMark}
 use Rattle.format.specs.Records.{recordIn}
-use Rattle.file.specs.declared.Begun.{Begun}
+use Rattle.file.specs.declared.Reading.{Reading}
 use Rattle.file.specs.declared.Header.{Header}
 use Rattle.file.specs.declared.Start.the-variants.{NoHeader}
 use Rattle.file.specs.declared.Progress.{Progress}
@@ -174,7 +174,7 @@ reading-unstarted s n t d clear = (
 
 -- The answer of a reading that is over, with the head h and the transitions t.
 
-pub answered : (s : List ℕ) (x : Read) (h : Head) (t : List ℕ) (r : Begun) → (readFile s ≡ x) × (automatonRead s ≡ wholeOf h t)
+pub answered : (s : List ℕ) (x : Read) (h : Head) (t : List ℕ) (r : Reading) → (readFile s ≡ x) × (automatonRead s ≡ wholeOf h t)
     → (r .refusal ≡ refusalOf x) × (r .head ≡ h) → (r .refusal ≡ refusalOf (readFile s)) × (wholeOf (r .head) t ≡ automatonRead s)
 answered s x h t r e d = (
   d .0 ∙ sym (ap refusalOf (e .0)),

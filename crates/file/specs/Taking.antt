@@ -10,7 +10,6 @@
 --                      of no states
 --   RecordTaken x p A B  the step x came to p, and left B of A
 --   refusalOf r        the refusal's number; 0 where there is none
---   readingOf r        what the reader's struct holds of r: with a refusal its automaton is bare
 -- Only contracts of the reader name these. Shown by `reading-advances`, `reading-ends` and `reading-refused`: how the reading goes on after a step
 -- that came to p; by `headed-automaton` and `unheaded-automaton`: what a reading leaves, in the terms of the file's records; and by
 -- `held-automaton`: a file that is read leaves its automaton. Assumes nothing.
@@ -21,7 +20,6 @@ use lib.ListN.{length}
 use Rattle.automaton.specs.declared.Automaton.{Automaton}
 use Rattle.automaton.specs.declared.Head.{Head}
 use Rattle.automaton.specs.Automata.{bare}
-use Rattle.file.specs.declared.Reading.{Reading}
 use Rattle.file.specs.declared.Header.{Header}
 use Rattle.file.specs.declared.Start.{Start}
 use Rattle.file.specs.declared.Start.the-variants.{NoHeader, Begins}
@@ -64,7 +62,3 @@ pub record RecordTaken (x : Step) (p : Progress) (A B : Automaton) : Type 0 wher
 abbrev pub refusalOf : Read → ℕ
 refusalOf (refused n) = n
 refusalOf (holds A) = 0
-
-abbrev pub readingOf : Read → Reading
-readingOf (refused n) = record { refusal = n; automaton = bare 0 0 0 }
-readingOf (holds A) = record { refusal = 0; automaton = A }

@@ -2,22 +2,15 @@
 ghost use mathlib.Core.Path.{_≡_};
 ghost use lib.ListN.{replicate};
 ghost use Rattle.automaton.specs.Automata.{wholeOf};
-ghost use Rattle.format.specs.File.{refused, holds, readFile};
-ghost use Rattle.file.specs.Taking.{Headed, headWith, automatonRead, refusalOf, readingOf};
-use automaton::Automaton;
+ghost use Rattle.format.specs.File.{readFile};
+ghost use Rattle.file.specs.Taking.{Headed, headWith, automatonRead, refusalOf};
 use automaton::Head;
 
 mod first;
 mod taking;
 
-// What reading a file gives: refusal 1 to 5, or 0 and the automaton. With a refusal the automaton field holds zeros.
+// What reading a file gives: refusal 1 to 5, or 0, and the head to the transitions that were lent.
 pub struct Reading {
-    pub refusal: usize,
-    pub automaton: Automaton,
-}
-
-// What reading a file into lent transitions gives: refusal 1 to 5, or 0, and the head to the transitions.
-pub struct Begun {
     pub refusal: usize,
     pub head: Head,
 }
@@ -43,10 +36,10 @@ pub enum Progress {
 }
 
 // The answer of a reading that is over: the refusal, and the head with this header and these accepting states.
-fn ended(refusal: usize, header: Header, accepting: [u8; 4]) -> Begun
+fn ended(refusal: usize, header: Header, accepting: [u8; 4]) -> Reading
     ensures { λ r. ⌜ (r .refusal ≡ refusal) × (r .head ≡ headWith header accepting) ⌝ }
 {
-    Begun {
+    Reading {
         refusal,
         head: Head {
             states: header.states,
@@ -57,8 +50,8 @@ fn ended(refusal: usize, header: Header, accepting: [u8; 4]) -> Begun
     }
 }
 
-// Reads the records past the header: what `read_into` promises of the whole file.
-fn read_records(file: &[u8], header: Header, transitions: &mut [u8; 2048]) -> Begun
+// Reads the records past the header: what `read` promises of the whole file.
+fn read_records(file: &[u8], header: Header, transitions: &mut [u8; 2048]) -> Reading
     requires { ⌜ Headed (now file) header × (now transitions ≡ replicate 2048 0) ⌝ }
     ensures refusal { λ r. ⌜ r .refusal ≡ refusalOf (readFile (now (file .entry))) ⌝ }
     ensures automaton { λ r. ⌜ wholeOf (r .head) (now (transitions .exit)) ≡ automatonRead (now (file .entry)) ⌝ }
@@ -76,7 +69,7 @@ fn read_records(file: &[u8], header: Header, transitions: &mut [u8; 2048]) -> Be
 
 // Reads a file into transitions that are all zero: refusal 1 to 5, or 0. The head and the transitions are then the automaton of the header and of
 // the records before the end or the first fault; without a header both are zero.
-pub fn read_into(file: &[u8], transitions: &mut [u8; 2048]) -> Begun
+pub fn read(file: &[u8], transitions: &mut [u8; 2048]) -> Reading
     requires { ⌜ now transitions ≡ replicate 2048 0 ⌝ }
     ensures refusal { λ r. ⌜ r .refusal ≡ refusalOf (readFile (now (file .entry))) ⌝ }
     ensures automaton { λ r. ⌜ wholeOf (r .head) (now (transitions .exit)) ≡ automatonRead (now (file .entry)) ⌝ }
@@ -91,45 +84,5 @@ pub fn read_into(file: &[u8], transitions: &mut [u8; 2048]) -> Begun
             ended(number, nothing, [0; 4])
         }
         Start::Begins(header) => read_records(file, header, transitions),
-    }
-}
-
-// The reading that a refusal gives.
-fn refused(number: usize) -> Reading
-    ensures { λ r. ⌜ r ≡ readingOf (refused number) ⌝ }
-{
-    Reading {
-        refusal: number,
-        automaton: automaton::bare(0, 0, 0),
-    }
-}
-
-// The reading that the whole automaton gives.
-fn whole(head: Head, transitions: [u8; 2048]) -> Reading
-    ensures { λ r. ⌜ r ≡ readingOf (holds (wholeOf head transitions)) ⌝ }
-{
-    let accepting = head.accepting;
-    Reading {
-        refusal: 0,
-        automaton: Automaton {
-            states: head.states,
-            letters: head.letters,
-            initial: head.initial,
-            accepting,
-            transitions,
-        },
-    }
-}
-
-// Reads a file: refusal 1 to 5, or 0 and the automaton.
-pub fn read(file: &[u8]) -> Reading
-    ensures { λ r. ⌜ r ≡ readingOf (readFile (now (file .entry))) ⌝ }
-{
-    let mut transitions = [0u8; 2048];
-    let begun = read_into(file, &mut transitions);
-    if begun.refusal == 0 {
-        whole(begun.head, transitions)
-    } else {
-        refused(begun.refusal)
     }
 }

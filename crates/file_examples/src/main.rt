@@ -4,8 +4,8 @@
 ghost use Prim.Native.Nat.{_<_};
 ghost use lib.ListN.{length};
 ghost use Rattle.io.specs.Counts.{Counts};
-ghost use Rattle.automaton.specs.Automata.{InRange};
-use automaton::Automaton;
+ghost use Rattle.automaton.specs.Automata.{wholeOf, InRange};
+use automaton::Head;
 use bytes::scan::find;
 use libc::STDIN_FILENO;
 use libc::STDOUT_FILENO;
@@ -28,30 +28,35 @@ fn show_states(flags: [bool; 32]) {
 }
 
 // Writes whether an automaton has a dead state, and its dead states.
-fn show_dead(a: Automaton)
-    requires { ⌜ InRange a ⌝ }
+fn show_dead(head: Head, transitions: &[u8; 2048])
+    requires { ⌜ InRange (wholeOf head (now transitions)) ⌝ }
 {
-    if deadend::has_dead(a) {
+    if deadend::has_dead(head, transitions) {
         io::write_all(STDOUT_FILENO, b" dead");
     } else {
         io::write_all(STDOUT_FILENO, b" none dead");
     }
-    show_states(deadend::dead_states(a));
+    show_states(deadend::dead_states(head, transitions));
 }
 
 // Writes the numbers and the dead states of an automaton.
-fn show_automaton(a: Automaton)
-    requires { ⌜ InRange a ⌝ }
+fn show_automaton(head: Head, transitions: &[u8; 2048])
+    requires { ⌜ InRange (wholeOf head (now transitions)) ⌝ }
 {
-    show_number(b" states ", a.states);
-    show_number(b" letters ", a.letters);
-    show_number(b" transitions ", range_test::transition_count(a));
-    show_dead(a);
+    show_number(b" states ", head.states);
+    show_number(b" letters ", head.letters);
+    show_number(
+        b" transitions ",
+        range_test::transition_count(head, transitions),
+    );
+    show_dead(head, transitions);
 }
 
 // Writes the refusal number of a file.
 fn show_refusal(file: &[u8]) {
-    io::print_decimal(STDOUT_FILENO, file::read(file).refusal as u64);
+    let mut transitions = [0u8; 2048];
+    let reading = file::read(file, &mut transitions);
+    io::print_decimal(STDOUT_FILENO, reading.refusal as u64);
 }
 
 // Writes the refusal number of each truncation of a file, the shortest first.
@@ -66,10 +71,11 @@ fn show_truncations(file: &[u8]) {
 // Writes what reading each truncation of a file gives, and then what reading all of it gives.
 fn show_file(file: &[u8]) {
     show_truncations(file);
-    let reading = file::read(file);
+    let mut transitions = [0u8; 2048];
+    let reading = file::read(file, &mut transitions);
     io::print_decimal(STDOUT_FILENO, reading.refusal as u64);
     if reading.refusal == 0 {
-        show_automaton(reading.automaton);
+        show_automaton(reading.head, &transitions);
     }
     io::write_all(STDOUT_FILENO, b"\n");
 }

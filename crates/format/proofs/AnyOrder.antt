@@ -1,10 +1,9 @@
 -- The order of the records does not matter: two files with the same header and the same records hold the same automaton. The
 -- bytes of an automaton that is read are below 256, and its accepting states and transitions are those of the records. Assumes nothing.
 use mathlib.Core.Path.{_≡_, sym, subst}
-use mathlib.Core.Bool.{Bool}
 use mathlib.Core.Logic.{_↔_}
 use mathlib.Core.List.{List, [], _∷_, List·Memᴰ}
-use Prim.Native.Nat.{ℕ, zero, suc, _/_, _%_, _^_, _<_}
+use Prim.Native.Nat.{ℕ, zero, suc, _%_, _^_, _<_}
 use native.Mathlib.Omega.{arith}
 use lib.Bits.{or-lt}
 use lib.ListN.{getD, set, replicate}

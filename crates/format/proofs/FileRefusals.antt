@@ -1,6 +1,6 @@
 -- A file is refused with a number exactly if its records fit up to a place and the record there has that fault. Assumes nothing.
 use mathlib.Core.Path.{_≡_, refl, sym, ap, subst, _∙_}
-use mathlib.Core.Logic.{_⊎_, inr, ⊎-elim, _↔_}
+use mathlib.Core.Logic.{inr, ⊎-elim, _↔_}
 use mathlib.Core.List.{List, _++_, List·Memᴰ}
 use Prim.Native.Nat.{ℕ}
 use native.Mathlib.Omega.{arith}

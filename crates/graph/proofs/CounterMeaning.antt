@@ -12,7 +12,6 @@ use Rattle.automaton.specs.declared.Automaton.{Automaton}
 use Rattle.automaton.specs.Automata.{maxStates, accepts}
 use Rattle.runs.specs.Runs.{Run}
 use Rattle.runs.specs.Lag.{LagIs}
-use Rattle.runs.specs.Containment.{Follows}
 use Rattle.runs.proofs.Runs.{run-length}
 use Rattle.runs.proofs.LagSteps.{next, Ok, LagIn, lag-iff}
 use Rattle.runs.proofs.LagNumber.{lag-at-most}

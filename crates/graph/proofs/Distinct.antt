@@ -7,7 +7,7 @@ use Prim.Native.Nat.{ℕ, zero, suc, _<_}
 use native.Mathlib.Omega.{arith}
 use lib.ListN.{length}
 use Rattle.slots.specs.Slots.{noLetter, noParent}
-use Rattle.graph.specs.Discovery.{Graph, Node, Walk, going, ended, full, nodesOf, node, always, listed, discover, discoverAll, successorsAt, expand, expandAll, begin, DiscoveryList, all, final, at}
+use Rattle.graph.specs.Discovery.{Graph, Node, Walk, going, ended, full, nodesOf, node, listed, discover, discoverAll, successorsAt, expand, expandAll, begin, at}
 use Rattle.graph.proofs.Discoveries.{DiscoverCase, known, ends, appended, no-slot, discover-case, at-left, at-last, before-or-last}
 
 abbrev pub Distinct : (G : Graph) → List (Node (G .Vertices)) → Type 0
@@ -69,7 +69,3 @@ module _ (G : Graph) (same-refl : (v : G .Vertices) → G .same v v ≡ true) wh
     walked-distinct k =
         expand-all-distinct k 0 (begin G free)
         (discover-distinct noParent (going []) (noLetter, G .initial) (λ i j l h q. absurd (omega arith)))
-
-  pub list-distinct : (w : Walk (G .Vertices)) → DiscoveryList G w → Distinct G (nodesOf w)
-  list-distinct w (all k e h) = rw e at (walked-distinct always k)
-  list-distinct w (final k e) = rw e at (walked-distinct always k)

@@ -2,10 +2,10 @@
 -- vertex can be reached. The listed vertices are distinct, and a vertex in range is one of the numbers below n (b + 2)³², so a walk with
 -- one slot more than that is not full. Assumes nothing.
 use mathlib.Core.Path.{_≡_, refl, sym, ap, subst, _∙_}
-use mathlib.Core.Bool.{Bool, true, false}
+use mathlib.Core.Bool.{false}
 use mathlib.Core.Logic.{_↔_}
 use mathlib.Core.List.{List, [], _∷_}
-use Prim.Native.Nat.{ℕ, zero, suc, _+_, _*_, _%_, _^_, _≤_, _<_}
+use Prim.Native.Nat.{ℕ, suc, _+_, _*_, _%_, _^_, _≤_, _<_}
 use native.Mathlib.Nat.{mul-suc, mul-le-mul-left, pow-zero, pow-succ', mod-eq-of-lt, add-mul-mod-self-left, eq-of-mul-eq-mul-left}
 use native.Mathlib.Omega.{arith}
 use lib.ListN.{length, getD}

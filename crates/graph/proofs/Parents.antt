@@ -7,7 +7,7 @@ use mathlib.Core.List.{List, [], _∷_, _++_, List·Memᴰ, List·Memᴰ·head, 
 use Prim.Native.Nat.{ℕ, _≤_, _<_}
 use native.Mathlib.Omega.{arith}
 use lib.ListN.{length}
-use Rattle.graph.specs.Discovery.{withFinal, Graph, Node, Walk, going, ended, full, nodesOf, node, discover, discoverAll, root, at}
+use Rattle.graph.specs.Discovery.{Graph, Node, Walk, going, ended, full, nodesOf, node, discover, discoverAll, root, at}
 use Rattle.graph.proofs.Discoveries.{DiscoverCase, known, ends, appended, no-slot, discover-case, discover-extends, at-left, at-last, before-or-last}
 
 -- the edge by which the node at place i was found goes from its parent's vertex

@@ -1,5 +1,5 @@
--- The ranges of the vertices that the walk lists: a left state of the automaton, 32 counters, each at most b + 1, and letters of the
--- automaton. The initial vertex is in range, and so are the successors of one that is. Assumes nothing.
+-- The ranges of the vertices that the walk lists: a left state of the automaton, and 32 counters, each at most b + 1. The initial vertex is
+-- in range, and so are the successors of one that is. Assumes nothing.
 use mathlib.Core.Path.{_≡_, subst}
 use mathlib.Core.Logic.{⊎-elim}
 use mathlib.Core.List.{List, List·Memᴰ}
@@ -8,7 +8,7 @@ use native.Mathlib.Omega.{arith}
 use lib.ListN.{length, getD, List·getD-eq-default}
 use Rattle.automaton.specs.declared.Automaton.{Automaton}
 use Rattle.automaton.specs.Automata.{maxStates, accepts}
-use Rattle.automaton.proofs.Transitions.{transition-on, transition-into}
+use Rattle.automaton.proofs.Transitions.{transition-into}
 use Rattle.slots.specs.declared.Vertex.{Vertex}
 use Rattle.graph.specs.Discovery.{Path, stay, along, Node, at}
 use Rattle.graph.specs.LagGraph.{initialVertex, successor, successors, lagGraph}
@@ -47,31 +47,22 @@ module _ (A B : Automaton) (b : ℕ) where
   initial-in-range h = record { left-below = h; all-counters = length-initial A B b; counters-le = initial-le }
 
   pub successor-in-range : (v : Vertex) (e : ℕ × Vertex) → VertexInRange A b v → List·Memᴰ e (successors A B b v)
-      → (e .0 < A .letters) × VertexInRange A b (e .1)
+      → VertexInRange A b (e .1)
   unfolding successor
   successor-in-range v e R m =
       let c = successors-are A B b v e m in
-      subst (λ (d : ℕ × Vertex). (d .0 < A .letters) × VertexInRange A b (d .1)) (c .3) (
-        transition-on A (v .left) (c .0) (c .1) (c .2),
-        record {
-          left-below = transition-into A (v .left) (c .0) (c .1) (c .2);
-          all-counters = length-stepped A B b (c .0) (c .1) (v .counters);
-          counters-le = stepped-le A B b (c .0) (c .1) (v .counters) (R .counters-le);
-        },
-      )
+      subst (λ (d : ℕ × Vertex). VertexInRange A b (d .1)) (c .3)
+      (record {
+        left-below = transition-into A (v .left) (c .0) (c .1) (c .2);
+        all-counters = length-stepped A B b (c .0) (c .1) (v .counters);
+        counters-le = stepped-le A B b (c .0) (c .1) (v .counters) (R .counters-le);
+      })
 
   path-in-range : {u v : Vertex} {w : List ℕ} → Path (lagGraph A B b) u w v → VertexInRange A b u → VertexInRange A b v
   path-in-range stay R = R
-  path-in-range (along {u = u} {v = v} {a = a} m k) R = path-in-range k (successor-in-range u (a, v) R m .1)
+  path-in-range (along {u = u} {v = v} {a = a} m k) R = path-in-range k (successor-in-range u (a, v) R m)
 
   -- the nodes of a list whose parents fall
   module _ (inside : A .initial < A .states) (p : ℕ) (ns : List (Node Vertex)) (L : Linked (lagGraph A B b) p ns) where
     pub listed-in-range : (i : ℕ) → i < length ns → VertexInRange A b (at (lagGraph A B b) ns i .vertex)
     listed-in-range i h = path-in-range (word-path (lagGraph A B b) p ns L i h) (initial-in-range inside)
-
-    pub letter-in-range : (i : ℕ) → 0 < i → i < length ns → at (lagGraph A B b) ns i .letter < A .letters
-    letter-in-range i h l =
-        successor-in-range (at (lagGraph A B b) ns (at (lagGraph A B b) ns i .parent) .vertex)
-        (at (lagGraph A B b) ns i .letter, at (lagGraph A B b) ns i .vertex)
-        (listed-in-range (at (lagGraph A B b) ns i .parent) (omega (arith, L .falls i h l)))
-        (L .edge i h l) .0

@@ -7,7 +7,6 @@ use mathlib.Core.Logic.{_↔_, _⊎_, inl, inr, ⊎-elim}
 use mathlib.Core.List.{List, [], _∷_, _++_}
 use Prim.Native.Nat.{ℕ, _≤_, _<_}
 use native.Mathlib.Omega.{arith}
-use lib.Dec.{T}
 use lib.ListN.{length, take}
 use Rattle.automaton.specs.declared.Automaton.{Automaton}
 use Rattle.automaton.specs.Automata.{maxStates}
@@ -28,11 +27,10 @@ use Rattle.graph.specs.Discovery.{withFinal}
 use Rattle.graph.proofs.Capacity.{walk-going-iff, walk-ended-iff, walk-full-more}
 use Rattle.graph.proofs.DiscoveryLaws.{going-lists-all, ended-list, list-linked}
 use Rattle.graph.proofs.Words.{word-length-le, final-word-path, final-word-shortest}
-use Rattle.graph.proofs.Distinct.{Distinct, list-distinct}
 use Rattle.graph.specs.Meaning.{countersAfter}
 use Rattle.graph.proofs.Counters.{counters-followed}
 use Rattle.graph.proofs.Paths.{path-prefix, prefix-path}
-use Rattle.graph.proofs.VertexRanges.{VertexInRange, listed-in-range, letter-in-range}
+use Rattle.graph.proofs.VertexRanges.{VertexInRange, listed-in-range}
 
 -- what the laws of the discovery list ask of the test whether two vertices are the same
 pub same-sound : (u v : Vertex) → sameVertex u v ≡ true → u ≡ v
@@ -70,17 +68,6 @@ module _ (A B : Automaton) (b S : ℕ) where
       let f = walk-full-more (lagGraph A B b) S ns e in
       sym (extends-front (lagGraph A B b) ns (nodesOf w) (f .1 w d .1)) ∙ ap (λ (k : ℕ). take k (nodesOf w)) (f .0)
 
-  -- refusal 10's walk exactly if the list does not fit
-  pub walk-full-iff : ((ns : List (Node Vertex)) × (walkOf A B b S ≡ full ns)) ↔ NeedsMore A B b S
-  unfolding NeedsMore
-  walk-full-iff = (λ e. walk-full (e .0) (e .1) .0, λ m. go (walkOf A B b S) refl m)
-    where
-      go : (w : Walk Vertex) → walkOf A B b S ≡ w → ((x : Walk Vertex) → Fits A B b S x → ⊥)
-          → (ns : List (Node Vertex)) × (walkOf A B b S ≡ full ns)
-      go (going ns) e m = absurd (m (going ns) (walk-going ns .0 e))
-      go (ended ns n) e m = absurd (m (ended ns n) (walk-ended ns n .0 e))
-      go (full ns) e m = (ns, e)
-
   -- The nodes of the list, that of the final vertex included.
 
   pub list-links : (w : Walk Vertex) → Fits A B b S w → (p : ℕ) × Linked (lagGraph A B b) p (withFinal w)
@@ -91,10 +78,6 @@ module _ (A B : Automaton) (b S : ℕ) where
       → at (lagGraph A B b) (withFinal w) i .parent < i
   list-parents-fall w f = list-links w f .1 .falls
 
-  -- no vertex is listed twice
-  pub list-distinct-vertices : (w : Walk Vertex) → Fits A B b S w → Distinct (lagGraph A B b) (nodesOf w)
-  list-distinct-vertices w f = list-distinct (lagGraph A B b) same-refl w (f .list)
-
   -- the word has no more letters than there are vertices before the final one
   pub list-word-length : (ns : List (Node Vertex)) (n : Node Vertex) → Fits A B b S (ended ns n)
       → length (wordOf A B b ns n) ≤ length ns
@@ -104,14 +87,10 @@ module _ (A B : Automaton) (b S : ℕ) where
       word-length-le (lagGraph A B b) (l .0) (ns ++ n ∷ []) (l .1) (length ns) (omega (arith, length-snoc (lagGraph A B b) ns n))
 
   module _ (inside : A .initial < A .states) where
-    -- left states, counters and letters
+    -- left states and counters
     pub list-in-range : (w : Walk Vertex) → Fits A B b S w → (i : ℕ) → i < length (withFinal w)
         → VertexInRange A b (at (lagGraph A B b) (withFinal w) i .vertex)
     list-in-range w f = let l = list-links w f in listed-in-range A B b inside (l .0) (withFinal w) (l .1)
-
-    pub list-letters : (w : Walk Vertex) → Fits A B b S w → (i : ℕ) → 0 < i → i < length (withFinal w)
-        → at (lagGraph A B b) (withFinal w) i .letter < A .letters
-    list-letters w f = let l = list-links w f in letter-in-range A B b inside (l .0) (withFinal w) (l .1)
 
   -- What the list says of containment.
 
@@ -120,14 +99,6 @@ module _ (A B : Automaton) (b S : ℕ) where
     not-final-followed : {q : ℕ} {w ts : List ℕ} → Run A (A .initial) w q ts → allZero (countersAfter A B b w ts) ≡ false
         → FollowedBy A B b w ts
     not-final-followed k e = counters-followed A B b small inside k .0 (λ t. clash (T-true _ t) e)
-
-    -- the counters after a left run prefix say whether a right one follows it, in the words of 01
-    pub counters-follow : {q : ℕ} {w ts : List ℕ} → Run A (A .initial) w q ts
-        → (T (allZero (countersAfter A B b w ts)) → ⊥) ↔ Follows A B b w (A .initial ∷ ts)
-    counters-follow k =
-        let c = counters-followed A B b small inside k in
-        let d = follows-followed A B b k in
-        (λ h. d .1 (c .0 h), λ f. c .1 (d .0 f))
 
     list-all-followed : (ns : List (Node Vertex)) → Fits A B b S (going ns) → AllFollowed A B b
     unfolding AllFollowed

@@ -9,7 +9,7 @@
 --   successors v       by letter, then by left target, both upwards
 --   lagGraph           the graph, whose final vertices have no counter above 0
 -- Shown by `counters-mean` and `contained-no-final`. Assumes nothing.
-use mathlib.Core.Bool.{Bool, true, false, cond, _&&_, not}
+use mathlib.Core.Bool.{cond, _&&_, not}
 use mathlib.Core.List.{List, map, flatMap}
 use Prim.Native.Nat.{ℕ, _+_, _-_}
 use lib.Dec.{eqb, ltb}

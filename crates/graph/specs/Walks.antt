@@ -6,7 +6,8 @@
 --   wordAfter word w  the word buffer after the word w: w in front where it has room, else unchanged; the rest as it was
 --   Fits A B b S w    w is the discovery list, and its vertices that are not final fit S slots
 --   NeedsMore A B b S the discovery list does not fit, which is refusal 10
--- Shown by `walk-decides-containment`, `list-differs`, `walk-full` and `walk-full-front`. Assumes nothing.
+-- Shown by `walk-decides-containment`, `list-differs`, `walk-full`, `walk-full-front`, `word-with-room` and `word-without-room`. Assumes
+-- nothing.
 use mathlib.Core.Bool.{cond}
 use mathlib.Core.List.{List, flatMap, _++_}
 use Prim.Native.Nat.{ℕ, _*_, _≤_}

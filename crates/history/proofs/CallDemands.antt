@@ -25,7 +25,6 @@ use Rattle.history.specs.declared.OfferAnswer.the-variants.{Forward, Bac
 use Rattle.history.specs.Entries.{malformed}
 use Rattle.history.specs.Opens.{Vetted, stopped, passed, openChecks, opened, openOf}
 use Rattle.history.specs.Offers.{Offer, offerOf}
-use Rattle.history.proofs.OfferWalks.{answerBy, workBy, wordBy}
 use Rattle.history.proofs.OfferCases.{giving, walked, by-offer}
 use Rattle.history.specs.OpenDemand.{AfterOpen, OpenDemand1}
 use Rattle.history.specs.OfferDemand.{AfterOffer, OfferDemand1}

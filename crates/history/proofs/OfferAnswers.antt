@@ -8,7 +8,7 @@ use Prim.Native.Nat.{ℕ, _≤_}
 use native.Mathlib.Nat.{le-trans}
 use native.Mathlib.Omega.{arith}
 use borrow.Author.Tests.{le-leb}
-use lib.Dec.{eqb, leb}
+use lib.Dec.{eqb}
 use lib.ListN.{length, take}
 use Rattle.format.proofs.FileLaws.{file-refusals}
 use Rattle.answers.proofs.FileRows.{refused-read}
@@ -23,7 +23,7 @@ use Rattle.answers.specs.Checks.{None, At}
 use Rattle.answers.proofs.ChecksLaws.{also, Every, first-every, Placed, first-at}
 use Rattle.history.specs.declared.Entry.{Entry}
 use Rattle.history.specs.declared.OfferAnswer.{OfferAnswer}
-use Rattle.history.specs.declared.OfferAnswer.the-variants.{Taken, Forward, Back, Refused, NoSlots, NoRoom}
+use Rattle.history.specs.declared.OfferAnswer.the-variants.{Refused}
 use Rattle.history.specs.Offers.{offerOf}
 use Rattle.history.specs.Tables.{offerRows, offerPlace}
 use Rattle.history.specs.OfferDemand.{malformed-entry, empty-entry, bad-file, bad-bound, other-letters, dead-state, not-smaller, forward-walk, back-walk, OfferListed}

@@ -1,7 +1,7 @@
 -- What an offer gives, by cases: a refusal before the walks, which changes nothing, or what the two walks come to. The checks before the
 -- walks are gone through here once for all that is shown of offers. Assumes nothing.
 use mathlib.Core.Path.{_≡_, refl, sym, subst}
-use mathlib.Core.Bool.{true, false, _||_, not}
+use mathlib.Core.Bool.{_||_, not}
 use mathlib.Core.List.{List}
 use Prim.Native.Nat.{ℕ}
 use borrow.Author.Tests.{not-false}
@@ -20,7 +20,7 @@ use Rattle.history.specs.declared.Entry.{Entry}
 use Rattle.history.specs.declared.OfferAnswer.{OfferAnswer}
 use Rattle.history.specs.Entries.{maxEdition, WellFormed, malformed, smaller}
 use Rattle.history.specs.Opens.{Vetted, stopped, passed}
-use Rattle.history.specs.Offers.{Offer, offerChecks, walksOf, entryOn, settled, offered, offerOf}
+use Rattle.history.specs.Offers.{Offer, offerChecks, entryOn, offered, offerOf}
 use Rattle.history.proofs.EntryChecks.{passed-well-formed}
 use Rattle.history.proofs.OfferWalks.{answerBy, workBy, wordBy, walks-settled}
 

@@ -15,7 +15,7 @@ use Rattle.graph.specs.Walks.{walkOf, workAfter, wordOf}
 use Rattle.graph.proofs.WorkBuffers.{work-length-kept}
 use Rattle.answers.specs.declared.Comparison.{Comparison}
 use Rattle.answers.specs.declared.Comparison.the-variants.{Differs, NoRoom as Roomless}
-use Rattle.answers.specs.Contain.{walkWord, compareWith, comparing}
+use Rattle.answers.specs.Contain.{walkWord, comparing}
 use Rattle.history.specs.declared.OfferAnswer.{OfferAnswer}
 use Rattle.history.specs.declared.OfferAnswer.the-variants.{Taken, Forward, Back, NoSlots, NoRoom}
 use Rattle.history.specs.Offers.{backAnswer, offerAnswer, lastMade, walksOf, walksAnswer, walksWork, walksWord}

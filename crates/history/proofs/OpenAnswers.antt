@@ -6,7 +6,7 @@ use mathlib.Core.Logic.{_↔_}
 use mathlib.Core.List.{List}
 use Prim.Native.Nat.{ℕ, _≤_}
 use borrow.Author.Tests.{le-leb}
-use lib.Dec.{eqb, leb}
+use lib.Dec.{eqb}
 use lib.ListN.{take}
 use Rattle.format.proofs.FileLaws.{file-refusals}
 use Rattle.answers.proofs.FileRows.{refused-read}
@@ -14,7 +14,7 @@ use Rattle.answers.specs.Checks.{None, At}
 use Rattle.answers.proofs.ChecksLaws.{also, Every, first-every, Placed, first-at}
 use Rattle.history.specs.declared.Entry.{Entry}
 use Rattle.history.specs.declared.OpenAnswer.{OpenAnswer}
-use Rattle.history.specs.declared.OpenAnswer.the-variants.{Opened, Refused}
+use Rattle.history.specs.declared.OpenAnswer.the-variants.{Refused}
 use Rattle.history.specs.Opens.{openOf}
 use Rattle.history.specs.Tables.{openRows, openPlace}
 use Rattle.history.specs.OpenDemand.{malformed-entry, already-open, bad-file, dead-state, OpenListed}

@@ -1,5 +1,5 @@
 -- What open answers, by the table: the answer is x exactly when x is the answer of the first row whose condition holds. Assumes nothing.
-use mathlib.Core.Path.{_≡_, refl, sym, _∙_}
+use mathlib.Core.Path.{_≡_, refl}
 use mathlib.Core.Logic.{inl, _↔_}
 use mathlib.Core.List.{List}
 use Prim.Native.Nat.{ℕ}

@@ -1,17 +1,14 @@
 -- Demand 1 of verdict: each answer stands in one row of the table, and it is given exactly when that row's condition holds and no earlier
 -- row's does; every refusal has a number of verdict's list. Assumes nothing.
 use mathlib.Core.Path.{_≡_, refl, sym, ap, subst}
-use mathlib.Core.Bool.{cond}
 use mathlib.Core.Logic.{_↔_}
 use mathlib.Core.List.{List}
 use Prim.Native.Nat.{ℕ}
-use lib.Dec.{eqb}
 use lib.ListN.{take}
 use Rattle.answers.specs.Checks.{None, At}
 use Rattle.answers.proofs.ChecksLaws.{also, Every, first-every, Placed, first-at}
 use Rattle.history.specs.declared.Entry.{Entry}
 use Rattle.history.specs.declared.VerdictAnswer.{VerdictAnswer}
-use Rattle.history.specs.declared.VerdictAnswer.the-variants.{Yes, No, Refused}
 use Rattle.history.specs.Verdicts.{verdictOf}
 use Rattle.history.specs.Tables.{verdictRows, verdictPlace}
 use Rattle.history.specs.VerdictDemand.{malformed-entry, empty-entry, bad-lasso, VerdictListed}

@@ -4,7 +4,7 @@
 --   entryAfter     the entry after a list of calls
 --   takenOffers    how many calls of the list are answered "taken"
 -- Shown by `demand-3`. Assumes nothing.
-use mathlib.Core.Bool.{Bool, true, false}
+use mathlib.Core.Bool.{Bool, false}
 use mathlib.Core.List.{List, [], _∷_}
 use Prim.Native.Nat.{ℕ, _+_}
 use Rattle.automaton.specs.Automata.{one}

@@ -1,6 +1,7 @@
 -- Offer (01, "Entry, open, offer"): the checks 9, 13, 1-5, 8, 7, 6, 14 in this order; then the forward walk, held automaton left and offer
 -- right, and after containment the back walk, which begins in slot 0 again. One definition for answer, entry and both buffers.
---   offerChecks      the checks before the walks
+--   offerVetting     the checks of the offered automaton: 8, 7, 6, 14
+--   offerChecks      all checks before the walks
 --   Walks            what the two walks give; the back walk begins with the buffers that the forward one leaves
 --   walksAnswer, walksWork, walksWord   answer and buffers by the two walks: those of the forward walk, unless it finds containment
 --   nextEdition      the entry after an offer is taken: edition plus 1, and the offer is held
@@ -27,16 +28,19 @@ use Rattle.history.specs.declared.OfferAnswer.the-variants.{Taken, Forwa
 use Rattle.history.specs.Entries.{maxEdition, malformed, smaller}
 use Rattle.history.specs.Opens.{Vetted, stopped, passed}
 
+abbrev pub offerVetting : Entry → ℕ → Automaton → Vetted
+offerVetting E b B =
+    cond (ltb maxBound b) (stopped 8)
+    (cond (not (eqb (E .held .letters) (B .letters))) (stopped 7)
+    (cond (hasDead B) (stopped 6)
+    (cond (not (smaller B (E .held)) || eqb (E .edition) maxEdition) (stopped 14)
+    (passed B))))
+
 unfoldable pub offerChecks : Entry → List ℕ → ℕ → Vetted
 offerChecks E f b =
     cond (malformed E) (stopped 9)
     (cond (not (E .filled)) (stopped 13)
-    (onRead (readFile f) stopped
-    (λ B. cond (ltb maxBound b) (stopped 8)
-    (cond (not (eqb (E .held .letters) (B .letters))) (stopped 7)
-    (cond (hasDead B) (stopped 6)
-    (cond (not (smaller B (E .held)) || eqb (E .edition) maxEdition) (stopped 14)
-    (passed B)))))))
+    (onRead (readFile f) stopped (offerVetting E b)))
 
 pub record Walks : Type 0 where
   pub forward : Compare

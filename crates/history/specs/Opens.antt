@@ -1,7 +1,8 @@
 -- Open (01, "Entry, open, offer"): the checks 9, 12, 1-5, 6 in this order, and edition 0.
 --   Vetted         what the checks of open or offer give: a refusal's number, or the file's automaton
 --   firstEdition   the entry of an opened automaton
---   openOf         the answer and the entry
+--   Open           what open gives: its answer, and the entry afterwards
+--   openOf         the whole call
 -- Shown by `open-demand-1`. Assumes nothing.
 use mathlib.Core.Bool.{true, cond}
 use mathlib.Core.List.{List}
@@ -11,7 +12,6 @@ use Rattle.format.specs.File.{readFile}
 use Rattle.deadstates.specs.DeadEnds.{hasDead}
 use Rattle.answers.specs.Checks.{onRead}
 use Rattle.history.specs.declared.Entry.{Entry}
-use Rattle.history.specs.declared.OpenResult.{OpenResult}
 use Rattle.history.specs.declared.OpenAnswer.{OpenAnswer}
 use Rattle.history.specs.declared.OpenAnswer.the-variants.{Opened, Refused}
 use Rattle.history.specs.Entries.{malformed}
@@ -30,9 +30,13 @@ openChecks E f =
 abbrev pub firstEdition : Automaton → Entry
 firstEdition A = record { filled = true; edition = 0; first = A .states; held = A }
 
-abbrev pub opened : Entry → Vetted → OpenResult
+pub record Open : Type 0 where
+  pub answer : OpenAnswer
+  pub entry : Entry
+
+abbrev pub opened : Entry → Vetted → Open
 opened E (stopped n) = record { answer = Refused n; entry = E }
 opened E (passed A) = record { answer = Opened; entry = firstEdition A }
 
-unfoldable pub openOf : Entry → List ℕ → OpenResult
+unfoldable pub openOf : Entry → List ℕ → Open
 openOf E f = opened E (openChecks E f)

@@ -4,14 +4,12 @@
 --   badLasso        the same, computed
 --   verdictOf       the answer
 -- Shown by `verdict-demand-1` and `bad-lasso-iff`. Assumes nothing.
-use mathlib.Core.Bool.{Bool, true, false, cond, _||_, not}
-use mathlib.Core.Logic.{_⊎_}
+use mathlib.Core.Bool.{Bool, false, cond, _||_, not}
 use mathlib.Core.Path.{_≡_}
 use mathlib.Core.List.{List, [], _∷_, List·Memᴰ}
 use Prim.Native.Nat.{ℕ, _≤_, _<_}
 use lib.Dec.{eqb, leb, ltb}
 use lib.ListN.{length}
-use Rattle.automaton.specs.declared.Automaton.{Automaton}
 use Rattle.lassos.specs.Verdict.{accepted}
 use Rattle.history.specs.declared.Entry.{Entry}
 use Rattle.history.specs.declared.VerdictAnswer.{VerdictAnswer}

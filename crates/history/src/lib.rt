@@ -1,6 +1,7 @@
 // The theory of entries (docs/reference.md, "Verdict" and "Entry, open, offer"): entries, the calls on them, their tables, the account of a list of
 // calls and demand 3. There is no code here but the types of entries and answers; the crate `entry` has it.
 use automaton::Automaton;
+use automaton::Head;
 
 // An entry: whether it holds an edition, that edition's number and automaton, and how many states the first edition had.
 pub struct Entry {
@@ -10,16 +11,18 @@ pub struct Entry {
     pub held: Automaton,
 }
 
+// An entry without the transitions of its automaton, which are lent beside it.
+pub struct EntryHead {
+    pub filled: bool,
+    pub edition: usize,
+    pub first: usize,
+    pub held: Head,
+}
+
 // What open answers: opened, or a refusal's number.
 pub enum OpenAnswer {
     Opened,
     Refused(usize),
-}
-
-// What open gives: its answer and the entry as it leaves it.
-pub struct OpenResult {
-    pub answer: OpenAnswer,
-    pub entry: Entry,
 }
 
 // What offer answers: taken with the forward and the back count; forward with its count and the word's length; back with both
@@ -32,12 +35,6 @@ pub enum OfferAnswer {
     Refused(usize),
     NoSlots(usize, usize),
     NoRoom(usize, usize),
-}
-
-// What offer gives: its answer and the entry as it leaves it.
-pub struct OfferResult {
-    pub answer: OfferAnswer,
-    pub entry: Entry,
 }
 
 // What verdict answers: accepted, not accepted, or a refusal's number.

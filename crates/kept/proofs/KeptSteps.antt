@@ -109,10 +109,6 @@ module _ (tops m : List ℕ) (states : ℕ) (work : List ℕ) (n : ℕ) (owners 
     pub line-owner : getD (set owners (suc k % lines) (suc k)) (suc k % lines) 0 ≡ suc k
     line-owner = owner-after k inside (suc k % lines) (omega arith)
 
-    pub line-steps : (a : ℕ) → a < maxLetters
-        → KeptStep tops m states work n (keptAfter owners kept (suc k)) (suc k % lines * lineLength + a * 2) a (countersAt work k)
-    line-steps = own-line k inside (suc k % lines) (omega arith) (eqb (getD owners (suc k % lines) 0) (suc k)) refl
-
   -- a step is kept: the two places of line l and letter a change
   pub kept-step : (kept′ : List ℕ) (l a k : ℕ) → length kept′ ≡ length kept → l < lines → a < maxLetters → getD owners l 0 ≡ suc k
       → KeptStep tops m states work n kept′ (l * lineLength + a * 2) a (countersAt work k)

@@ -18,15 +18,13 @@ use Rattle.boundary.proofs.OutcomeSizes.{slot-count-le}
 use Rattle.history.specs.declared.Entry.{Entry}
 use Rattle.history.specs.declared.OpenAnswer.{OpenAnswer}
 use Rattle.history.specs.declared.OpenAnswer.the-variants.{Opened, Refused as OpenRefused}
-use Rattle.history.specs.declared.OpenResult.{OpenResult}
 use Rattle.history.specs.declared.OfferAnswer.{OfferAnswer}
 use Rattle.history.specs.declared.OfferAnswer.the-variants.{Taken, Forward, Back, Refused, NoSlots, NoRoom}
-use Rattle.history.specs.declared.OfferResult.{OfferResult}
 use Rattle.history.specs.declared.VerdictAnswer.{VerdictAnswer}
 use Rattle.history.specs.declared.VerdictAnswer.the-variants.{Yes, No, Refused as VerdictRefused}
 use Rattle.history.specs.Entries.{malformed, WellFormed}
 use Rattle.history.specs.Verdicts.{verdictOf}
-use Rattle.history.specs.Opens.{Vetted, stopped, passed, openChecks, opened, openOf, firstEdition}
+use Rattle.history.specs.Opens.{Vetted, stopped, passed, openChecks, opened, Open, openOf, firstEdition}
 use Rattle.history.specs.Offers.{Offer, isTaken, offerOf, nextEdition}
 use Rattle.history.proofs.OfferCases.{by-offer}
 use Rattle.boundary.specs.Bytes.{entryLength, isEntry, entryOf, FitsBytes}
@@ -136,19 +134,21 @@ module _ (s f : List ℕ) where
   entry-open-bytes e = rw e refl
 
   -- what the calls below entry_open promise makes its promise
-  pub entry-opened : (E : Entry) (R : OpenResult) (o : Bool) (n : ℕ) (t : List ℕ) → isEntry s ≡ true → E ≡ entryOf s → R ≡ openOf E f
-      → o ≡ isOpened (R .answer) → n ≡ openNumber (R .answer) → t ≡ stored o (R .entry) s
+  pub entry-opened : (E G : Entry) (x : OpenAnswer) (o : Bool) (n : ℕ) (t : List ℕ) → isEntry s ≡ true → E ≡ entryOf s
+      → x ≡ openOf E f .answer → G ≡ openOf E f .entry
+      → o ≡ isOpened x → n ≡ openNumber x → t ≡ stored o G s
       → (n ≡ openBytesNumber s f) × (t ≡ openBytes s f)
-  entry-opened E R o n t i e r eo en et =
-      let h : R ≡ openOf (entryOf s) f = r ∙ ap (λ (F : Entry). openOf F f) e in (
-        en ∙ ap (λ (Q : OpenResult). openNumber (Q .answer)) h ∙ sym (entry-open-number i),
-        et ∙ ap (λ (b : Bool). stored b (R .entry) s) eo
-            ∙ ap (λ (Q : OpenResult). stored (isOpened (Q .answer)) (Q .entry) s) h
+  entry-opened E G x o n t i e ra re eo en et =
+      let h : openOf E f ≡ openOf (entryOf s) f = ap (λ (F : Entry). openOf F f) e in (
+        en ∙ ap openNumber ra ∙ ap (λ (Q : Open). openNumber (Q .answer)) h ∙ sym (entry-open-number i),
+        et ∙ ap₂ (λ (c : Bool) (F : Entry). stored c F s) (eo ∙ ap isOpened ra) re
+            ∙ ap (λ (Q : Open). stored (isOpened (Q .answer)) (Q .entry) s) h
             ∙ sym (entry-open-bytes i),
       )
 
-pub opened-result-fits : (E : Entry) (f : List ℕ) (R : OpenResult) → R ≡ openOf E f → isOpened (R .answer) ≡ true → FitsBytes (R .entry)
-opened-result-fits E f R r = subst (λ (Q : OpenResult). isOpened (Q .answer) ≡ true → FitsBytes (Q .entry)) (sym r) (opened-fits E f)
+pub opened-result-fits : (E : Entry) (f : List ℕ) (G : Entry) (x : OpenAnswer) → x ≡ openOf E f .answer → G ≡ openOf E f .entry
+    → isOpened x ≡ true → FitsBytes G
+opened-result-fits E f G x d e h = subst FitsBytes (sym e) (opened-fits E f (ap isOpened (sym d) ∙ h))
 
 offer-refusal-le : {n : ℕ} → OfferRefusal n → n ≤ 14
 offer-refusal-le offers.malformed-entry = omega arith
@@ -199,9 +199,9 @@ module _ (E : Entry) (f : List ℕ) (b : ℕ) (work word : List ℕ) where
       (λ n e. let z : _≡_ {A = ℕ} 0 1 = cc in absurd (omega arith))
       (λ B r i w back d k e. rw e (next-edition-fits E B i (file-in-range f B r)))
 
-  pub taken-result-fits : (R : OfferResult) → R .answer ≡ offerOf E f b work word .answer → R .entry ≡ offerOf E f b work word .entry
-      → isTaken (R .answer) ≡ true → FitsBytes (R .entry)
-  taken-result-fits R d e h = subst FitsBytes (sym e) (taken-fits (ap isTaken (sym d) ∙ h))
+  pub taken-result-fits : (G : Entry) (x : OfferAnswer) → x ≡ offerOf E f b work word .answer → G ≡ offerOf E f b work word .entry
+      → isTaken x ≡ true → FitsBytes G
+  taken-result-fits G x d e h = subst FitsBytes (sym e) (taken-fits (ap isTaken (sym d) ∙ h))
 
 module _ (s f : List ℕ) (b : ℕ) (work word : List ℕ) where
   -- the promise of entry_offer
@@ -222,11 +222,11 @@ module _ (s f : List ℕ) (b : ℕ) (work word : List ℕ) where
   entry-offer e = (rw e refl, (rw e refl, (rw e refl, rw e refl)))
 
   -- what the calls below entry_offer promise makes its promise
-  pub entry-offered : (E : Entry) (R : OfferResult) (o : Bool) (n : ℕ) (t work′ word′ : List ℕ) → isEntry s ≡ true → E ≡ entryOf s
-      → R .answer ≡ offerOf E f b work word .answer → R .entry ≡ offerOf E f b work word .entry
+  pub entry-offered : (E G : Entry) (x : OfferAnswer) (o : Bool) (n : ℕ) (t work′ word′ : List ℕ) → isEntry s ≡ true → E ≡ entryOf s
+      → x ≡ offerOf E f b work word .answer → G ≡ offerOf E f b work word .entry
       → work′ ≡ offerOf E f b work word .work → word′ ≡ offerOf E f b work word .word
-      → o ≡ isTaken (R .answer) → n ≡ offerNumber (R .answer) → t ≡ stored o (R .entry) s → Offered n t work′ word′
-  entry-offered E R o n t work′ word′ i e ra re ew ed eo en et =
+      → o ≡ isTaken x → n ≡ offerNumber x → t ≡ stored o G s → Offered n t work′ word′
+  entry-offered E G x o n t work′ word′ i e ra re ew ed eo en et =
       let h : offerOf E f b work word ≡ offerOf (entryOf s) f b work word = ap (λ (F : Entry). offerOf F f b work word) e in
       let d = entry-offer i in (
         en ∙ ap offerNumber ra ∙ ap (λ (Q : Offer). offerNumber (Q .answer)) h ∙ d .0,

@@ -1,7 +1,7 @@
 // The functions that vendors link: thin, each over the crate that does the work.
 use answers::Comparison;
 use answers::Outcome;
-use history::Entry;
+use history::EntryHead;
 use history::OpenAnswer;
 ghost use mathlib.Core.Path.{_≡_};
 ghost use mathlib.Core.Bool.{true};
@@ -9,6 +9,7 @@ ghost use lib.ListN.{length};
 ghost use denote.Ref.{ptr};
 ghost use Rattle.answers.specs.Contain.{outcomeOf, workOf, wordBuffer, partLength, wordPart};
 ghost use Rattle.answers.specs.Demand2.{Demand2};
+ghost use Rattle.history.specs.Entries.{entryWith};
 ghost use Rattle.boundary.specs.Bytes.{entryLength, FitsBytes};
 ghost use Rattle.boundary.specs.Numbers.{outcomeNumber};
 ghost use Rattle.kernel.specs.EntryCalls.{
@@ -102,12 +103,12 @@ pub fn contain_part<'a>(
 }
 
 // Writes the entry's bytes where it is to be written.
-fn store(written: bool, entry: Entry, bytes: &mut [u8])
-    requires { ⌜ (length (now bytes) ≡ entryLength) × (written ≡ true → FitsBytes entry) ⌝ }
-    ensures { λ _. ⌜ now (bytes .exit) ≡ stored written entry (now (bytes .entry)) ⌝ }
+fn store(written: bool, entry: EntryHead, held: &[u8; 2048], bytes: &mut [u8])
+    requires { ⌜ (length (now bytes) ≡ entryLength) × (written ≡ true → FitsBytes (entryWith entry (now held))) ⌝ }
+    ensures { λ _. ⌜ now (bytes .exit) ≡ stored written (entryWith entry (now (held .entry))) (now (bytes .entry)) ⌝ }
 {
     if written {
-        boundary::bytes::encode(entry, bytes);
+        boundary::bytes::encode(entry, held, bytes);
     }
 }
 
@@ -131,9 +132,11 @@ pub extern "C" fn entry_open(entry: &mut [u8], file: &[u8]) -> u64
     if !boundary::bytes::is_entry(entry) {
         return 109;
     }
-    let opened = entry::open_entry(boundary::bytes::decode(entry), file);
+    let mut held = [0u8; 2048];
+    let head = boundary::bytes::decode(entry, &mut held);
+    let opened = entry::open_entry(head, &mut held, file);
     let answer = opened.answer;
-    store(is_opened(answer), opened.entry, entry);
+    store(is_opened(answer), opened.entry, &held, entry);
     boundary::numbers::open_number(answer)
 }
 
@@ -166,9 +169,11 @@ pub extern "C" fn entry_offer(
     if !boundary::bytes::is_entry(entry) {
         return 109;
     }
-    let offered = entry::offer_entry(boundary::bytes::decode(entry), file, bound, work, word);
+    let mut held = [0u8; 2048];
+    let head = boundary::bytes::decode(entry, &mut held);
+    let offered = entry::offer_entry(head, &mut held, file, bound, work, word);
     let answer = offered.answer;
-    store(entry::is_taken(answer), offered.entry, entry);
+    store(entry::is_taken(answer), offered.entry, &held, entry);
     boundary::numbers::offer_number(answer)
 }
 
@@ -182,5 +187,7 @@ pub extern "C" fn entry_verdict(entry: &[u8], stem: &[u8], cycle: &[u8]) -> u64
     if !boundary::bytes::is_entry(entry) {
         return 109;
     }
-    boundary::numbers::verdict_number(entry::verdict(boundary::bytes::decode(entry), stem, cycle))
+    let mut held = [0u8; 2048];
+    let head = boundary::bytes::decode(entry, &mut held);
+    boundary::numbers::verdict_number(entry::verdict(head, &held, stem, cycle))
 }

@@ -1,21 +1,20 @@
 // Prints the lines of made-up entries and answers: those of document 01, and those at its edges.
 ghost use Prim.Native.Nat.{_≤_};
 ghost use lib.ListN.{length};
-use automaton::Automaton;
-use history::Entry;
+use automaton::Head;
+use history::EntryHead;
 use history::OfferAnswer;
 use libc::STDOUT_FILENO;
 
 // An entry with an edition number, held states and first states.
-fn entry_of(edition: usize, states: usize, first: usize) -> Entry {
-    let held = Automaton {
+fn entry_of(edition: usize, states: usize, first: usize) -> EntryHead {
+    let held = Head {
         states,
         letters: 2,
         initial: 0,
         accepting: [0u8; 4],
-        transitions: [0u8; 2048],
     };
-    Entry {
+    EntryHead {
         filled: true,
         edition,
         first,
@@ -31,7 +30,7 @@ fn print(line: &[u8], n: usize)
 }
 
 // Prints the line of an offer.
-fn show(entry: Entry, answer: OfferAnswer, letters: &[u8]) {
+fn show(entry: EntryHead, answer: OfferAnswer, letters: &[u8]) {
     let mut line = [b'.'; 1024];
     let n = report::offer_line(entry, answer, letters, &mut line);
     print(&line, n);

@@ -1,2 +1,3 @@
--- Laws of words.
+-- Laws of words, and of loops that count.
+pub mod CountLoops
 pub mod Words

@@ -7,18 +7,18 @@ use automaton::wide;
 use format::Record;
 
 // The number of bytes from a position on.
-fn left_from(file: &[u8], at: usize) -> usize
+fn remaining_from(file: &[u8], at: usize) -> usize
     ensures { λ r. ⌜ r ≡ length (now (file .entry)) - at ⌝ }
 {
     if at < file.len() { file.len() - at } else { 0 }
 }
 
 // An accepting record whose mark stands at a position.
-fn accepting_at(file: &[u8], at: usize, left: usize) -> Record
-    requires { ⌜ (at + left ≡ length (now file)) × (2 ≤ left) ⌝ }
+fn accepting_at(file: &[u8], at: usize, remaining: usize) -> Record
+    requires { ⌜ (at + remaining ≡ length (now file)) × (2 ≤ remaining) ⌝ }
     ensures { λ r. ⌜ r ≡ acceptingRecord (now (file .entry)) at ⌝ }
 {
-    if left < 3 {
+    if remaining < 3 {
         return Record::Fault(1);
     }
     Record::Accepting {
@@ -28,11 +28,11 @@ fn accepting_at(file: &[u8], at: usize, left: usize) -> Record
 }
 
 // A transition record whose mark stands at a position.
-fn transition_at(file: &[u8], at: usize, left: usize) -> Record
-    requires { ⌜ (at + left ≡ length (now file)) × (2 ≤ left) ⌝ }
+fn transition_at(file: &[u8], at: usize, remaining: usize) -> Record
+    requires { ⌜ (at + remaining ≡ length (now file)) × (2 ≤ remaining) ⌝ }
     ensures { λ r. ⌜ r ≡ transitionRecord (now (file .entry)) at ⌝ }
 {
-    if left < 5 {
+    if remaining < 5 {
         return Record::Fault(1);
     }
     Record::Transition {
@@ -44,11 +44,11 @@ fn transition_at(file: &[u8], at: usize, left: usize) -> Record
 }
 
 // An end record whose mark stands at a position: no byte follows it.
-fn end_at(file: &[u8], at: usize, left: usize) -> Record
-    requires { ⌜ (at + left ≡ length (now file)) × (2 ≤ left) ⌝ }
+fn end_at(file: &[u8], at: usize, remaining: usize) -> Record
+    requires { ⌜ (at + remaining ≡ length (now file)) × (2 ≤ remaining) ⌝ }
     ensures { λ r. ⌜ r ≡ endRecord (now (file .entry)) at ⌝ }
 {
-    if left == 2 {
+    if remaining == 2 {
         return Record::End;
     }
     Record::Fault(2)
@@ -58,17 +58,17 @@ fn end_at(file: &[u8], at: usize, left: usize) -> Record
 pub fn record_at(file: &[u8], at: usize) -> Record
     ensures { λ r. ⌜ r ≡ recordIn (now (file .entry)) at ⌝ }
 {
-    let left = left_from(file, at);
-    if left < 2 {
+    let remaining = remaining_from(file, at);
+    if remaining < 2 {
         return Record::Fault(1);
     }
     if file[at] != 0x41 {
         return Record::Fault(2);
     }
     match file[at + 1] {
-        0x46 => accepting_at(file, at, left),
-        0x54 => transition_at(file, at, left),
-        0x45 => end_at(file, at, left),
+        0x46 => accepting_at(file, at, remaining),
+        0x54 => transition_at(file, at, remaining),
+        0x45 => end_at(file, at, remaining),
         _ => Record::Fault(2),
     }
 }

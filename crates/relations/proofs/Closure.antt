@@ -59,12 +59,6 @@ pub steps-append : {f : ℕ → ℕ → Bool} {n p r q : ℕ} → r < n → Step
 steps-append h (one s) k = more h s k
 steps-append h (more l s i) k = more l s (steps-append h i k)
 
--- a path of f is a path of g where each step of f between states below n is one of g
-pub steps-map : {f g : ℕ → ℕ → Bool} {n p q : ℕ} → ((p′ q′ : ℕ) → p′ < n → q′ < n → T (f p′ q′) → T (g p′ q′))
-    → p < n → q < n → Steps f n p q → Steps g n p q
-steps-map {p = p} {q = q} h hp hq (one s) = one (h p q hp hq s)
-steps-map {p = p} h hp hq (more {r = r} l s k) = more l (h p r hp l s) (steps-map h l hq k)
-
 -- The rounds.
 
 module _ (n : ℕ) (R : List (List Bool)) where

@@ -8,11 +8,11 @@ use Prim.Native.Nat.{ℕ, zero, suc, _+_, _*_, _/_, _%_, _^_, _-_, _≤_, _<_}
 use native.Mathlib.Nat.{lt-of-not-le, pow-le-pow-right, pow-suc, div-one, add-zero, zero-add, add-suc, suc-add}
 use native.Mathlib.Numerals.{add-one, one-add}
 use native.Mathlib.Omega.{arith}
-use lib.Bits.{bitAnd, bitOr, and-shr, and-mod, and-zero-l, and-lt, and-le-l, or-self, block-half, block-odd}
+use lib.Bits.{bitAnd, bitOr, and-shr, and-mod, and-zero-l, and-lt, or-self, block-half, block-odd}
 use lib.Dec.{T, eqb, ltb, ltb→lt, lt→ltb}
 use lib.ListN.{length, getD, set, take, drop, length-append, length-take, length-drop, length-set, take-append-drop, List·getD-append}
 use lib.Arith.{lt-of-le-ne}
-use lib.Pow.{high, shr-shr, shr-lt}
+use lib.Pow.{high, shr-shr}
 use lib.Seq.{getD-set-same, getD-set-other, getD-append-add, getD-take, getD-drop, ext-getD}
 use borrow.Author.Tests.{ltb-true, ltb-false, lt-ltb, le-ltb, eq-eqb, ne-eqb, eqb-true, eqb-false}
 use Rattle.automaton.specs.Ranges.{some, table}
@@ -157,58 +157,6 @@ word-has w h = bits-some 32 w h
 pub words-meet : (w v : ℕ) → w < 2 ^ 32 → v < 2 ^ 32 → not (eqb (bitAnd w v) 0) ≡ some (λ q. bit w q && bit v q) 32 0
 words-meet w v hw hv =
     word-has (bitAnd w v) (and-lt 32 w v hw hv) ∙ some-same (bit (bitAnd w v)) (λ q. bit w q && bit v q) 32 (λ q h. bit-and w v q)
-
--- what two words have in common is the first of them exactly if the second lacks none of its members
-pub words-exceed : (w v : ℕ) → w < 2 ^ 32 → not (eqb (bitAnd w v) w) ≡ some (λ q. bit w q && not (bit v q)) 32 0
-words-exceed w v h = go (some (λ q. bit w q && not (bit v q)) 32 0) refl
-  where
-    lacked : (x y : Bool) → T (x && not y) → x ≡ (x && y) → ⊥
-    lacked true true t e = t
-    lacked true false t e = clash refl e
-    lacked false y t e = t
-
-    shared : (x y : Bool) → (T (x && not y) → ⊥) → (x && y) ≡ x
-    shared true true n = refl
-    shared true false n = absurd (n tt)
-    shared false y n = refl
-
-    go : (c : Bool) → some (λ q. bit w q && not (bit v q)) 32 0 ≡ c
-        → not (eqb (bitAnd w v) w) ≡ some (λ q. bit w q && not (bit v q)) 32 0
-    go true e =
-        let x = some-below (λ q. bit w q && not (bit v q)) 32 (is-true _ e) in
-        ap not (ne-eqb (bitAnd w v) w
-        (λ z. lacked (bit w (x .0)) (bit v (x .0)) (x .2) (ap (λ (n : ℕ). bit n (x .0)) (sym z) ∙ bit-and w v (x .0)))) ∙ sym e
-    go false e =
-        let same : bitAnd w v ≡ w =
-        same-bits 32 (bitAnd w v) w (omega (arith, and-le-l w v)) h
-        (λ i l. bit-and w v i ∙ shared (bit w i) (bit v i) (λ t. subst T e (some-at (λ q. bit w q && not (bit v q)) 32 i l t))) in
-        ap not (eq-eqb (bitAnd w v) w same) ∙ sym e
-
-some-from : (f : ℕ → Bool) (n i j : ℕ) → some f n (i + j) ≡ some (λ k. f (i + k)) n j
-unfolding some
-some-from f zero i j = refl
-some-from f (suc n) i j =
-    ap (λ (c : Bool). f (i + j) || c) (ap (some f n) (sym (add-suc i j)) ∙ some-from f n i (suc j))
-
--- a word without its lowest bits has the members above them
-pub word-above : (w q : ℕ) → w < 2 ^ 32 → q < 32 → ltb 1 (w / 2 ^ q) ≡ some (bit w) (32 - (q + 1)) (q + 1)
-word-above w q h l =
-    let n = 32 - (q + 1) in
-    let all : n + (q + 1) ≡ 32 = omega arith in
-    let short : w / 2 ^ (q + 1) < 2 ^ n = shr-lt n (q + 1) (subst (λ (k : ℕ). w < 2 ^ k) (sym all) h) in
-    above (w / 2 ^ q)
-    ∙ ap (λ (x : ℕ). not (eqb x 0)) (shr-shr w q 1)
-    ∙ bits-some n (w / 2 ^ (q + 1)) short
-    ∙ some-same (bit (w / 2 ^ (q + 1))) (λ k. bit w (q + 1 + k)) n (λ k i. ap (λ (x : ℕ). eqb (x % 2) 1) (shr-shr w (q + 1) k))
-    ∙ sym (some-from (bit w) n (q + 1) 0)
-    ∙ ap (some (bit w) n) (add-zero (q + 1))
-  where
-    above : (x : ℕ) → ltb 1 x ≡ not (eqb (x / 2 ^ 1) 0)
-    above x = go (ltb 1 x) refl
-      where
-        go : (c : Bool) → ltb 1 x ≡ c → ltb 1 x ≡ not (eqb (x / 2 ^ 1) 0)
-        go true e = let g = ltb-true 1 x e in e ∙ sym (ap not (ne-eqb (x / 2) 0 (λ z. omega arith)))
-        go false e = let g = ltb-false 1 x e in e ∙ sym (ap not (eq-eqb (x / 2) 0 (omega arith)))
 
 -- a word with one byte more below it
 byte-more : (b w : ℕ) (bs : List ℕ) → b < 256 → ((q : ℕ) → bit w q ≡ member bs q) → (q : ℕ) → bit (w * 256 + b) q ≡ member (b ∷ bs) q

@@ -11,13 +11,13 @@ use lib.Seq.{length-take-le}
 use Rattle.history.proofs.OfferBuffers.{offer-part-le}
 use Rattle.history.specs.declared.Entry.{Entry}
 use Rattle.history.specs.declared.OfferAnswer.{OfferAnswer}
-use Rattle.history.specs.declared.OpenResult.{OpenResult}
 use Rattle.history.specs.declared.OpenAnswer.{OpenAnswer}
 use Rattle.history.specs.declared.OpenAnswer.the-variants.{Opened, Refused}
 use Rattle.history.specs.Opens.{openOf}
 use Rattle.history.specs.Offers.{Offer, offerOf, offerPart, partLength}
 use Rattle.report.specs.Line.{newline, usageText, longText, refusedLine, offerLine, lineAfter, lineLength, lineRoom, Lined}
-use Rattle.report.specs.Listing.{maxFile, workBytes, wordBytes, freshEntry, offerListing, openListing, listing}
+use Rattle.history.specs.Entries.{freshEntry}
+use Rattle.report.specs.Listing.{maxFile, workBytes, wordBytes, offerListing, openListing, listing}
 
 -- the same line, where more room is asked for and is there
 pub lined-more : {m k : ℕ} {l d e : List ℕ} {n : ℕ} → m ≤ k → k ≤ length d → Lined m l d e n → Lined k l d e n
@@ -81,16 +81,19 @@ pub part-room : (E : Entry) (offer : List ℕ) (b : ℕ) (x : OfferAnswer) (word
 part-room E offer b x word part d long p =
     let h = part-le E offer b x d in omega (arith, h, ap length p, length-take-le (partLength x) word (omega (arith, h, long)))
 
--- the line of what open gives to a fresh entry
-module _ (first offer : List ℕ) (b : ℕ) (E : Entry) (r : OpenResult) (empty : E ≡ freshEntry) (is : r ≡ openOf E first) where
-  abbrev callsLine : OpenResult → List ℕ
-  callsLine x = openListing (x .answer) (x .entry) offer b
+-- the line of the answer x that open gives to a fresh entry, and of the entry F that it leaves
+module _ (first offer : List ℕ) (b : ℕ) (E : Entry) (x : OpenAnswer) (F : Entry) (empty : E ≡ freshEntry)
+    (gives : x ≡ openOf E first .answer) (leaves : F ≡ openOf E first .entry) where
+  abbrev callsLine : List ℕ
+  callsLine = openListing (openOf freshEntry first .answer) (openOf freshEntry first .entry) offer b
 
-  same-calls : callsLine r ≡ callsLine (openOf freshEntry first)
-  same-calls = ap callsLine (is ∙ ap (λ (F : Entry). openOf F first) empty)
+  same-calls : openListing x F offer b ≡ callsLine
+  same-calls =
+      ap₂ (λ (y : OpenAnswer) (G : Entry). openListing y G offer b) gives leaves
+      ∙ ap (λ (G : Entry). openListing (openOf G first .answer) (openOf G first .entry) offer b) empty
 
-  pub listing-opened : r .answer ≡ Opened → offerListing (r .entry) offer b ≡ callsLine (openOf freshEntry first)
-  listing-opened told = ap (λ (x : OpenAnswer). openListing x (r .entry) offer b) (sym told) ∙ same-calls
+  pub listing-opened : x ≡ Opened → offerListing F offer b ≡ callsLine
+  listing-opened told = ap (λ (y : OpenAnswer). openListing y F offer b) (sym told) ∙ same-calls
 
-  pub listing-refused : {n : ℕ} → r .answer ≡ Refused n → refusedLine n ≡ callsLine (openOf freshEntry first)
-  listing-refused told = ap (λ (x : OpenAnswer). openListing x (r .entry) offer b) (sym told) ∙ same-calls
+  pub listing-refused : {n : ℕ} → x ≡ Refused n → refusedLine n ≡ callsLine
+  listing-refused told = ap (λ (y : OpenAnswer). openListing y F offer b) (sym told) ∙ same-calls

@@ -3,17 +3,15 @@
 -- work and 2,048 of word, and the line is that of the offer, or of the refusal that came up.
 --   listing input first offer   the line, of the bytes of standard input and of the two files
 -- Shown by the contract of `listing_line`. Assumes nothing.
-use mathlib.Core.Bool.{Bool, true, false, cond, _||_, not}
+use mathlib.Core.Bool.{Bool, true, cond, _||_, not}
 use mathlib.Core.List.{List, [], _∷_, _++_}
 use Prim.Native.Nat.{ℕ}
 use lib.Dec.{eqb, ltb}
 use lib.ListN.{length, getD, replicate}
-use Rattle.automaton.specs.Automata.{bare}
 use Rattle.history.specs.declared.Entry.{Entry}
-use Rattle.history.specs.declared.OpenResult.{OpenResult}
 use Rattle.history.specs.declared.OpenAnswer.{OpenAnswer}
 use Rattle.history.specs.declared.OpenAnswer.the-variants.{Opened, Refused}
-use Rattle.history.specs.declared.OfferResult.{OfferResult}
+use Rattle.history.specs.Entries.{freshEntry}
 use Rattle.history.specs.Opens.{openOf}
 use Rattle.history.specs.Offers.{offerOf, offerPart}
 use Rattle.report.specs.Line.{newline, usageText, longText, refusedLine, offerLine}
@@ -26,10 +24,6 @@ workBytes = 65520
 
 abbrev pub wordBytes : ℕ
 wordBytes = 2048
-
--- an empty entry, all of whose numbers are 0
-unfoldable pub freshEntry : Entry
-freshEntry = record { filled = false; edition = 0; first = 0; held = bare 0 0 0 }
 
 -- the offer of a file to an entry, with buffers of zeros
 unfoldable pub offerListing : Entry → List ℕ → ℕ → List ℕ

@@ -1,9 +1,10 @@
 // The line that the listing prints, written into a lent buffer.
 ghost use mathlib.Core.Path.{_≡_};
-ghost use mathlib.Core.List.{[], _++_};
-ghost use Prim.Native.Nat.{_+_, _*_, _≤_};
+ghost use mathlib.Core.List.{List, [], _++_};
+ghost use Prim.Native.Nat.{ℕ, _+_, _*_, _≤_};
 ghost use lib.Dec.{leb};
 ghost use lib.ListN.{length};
+ghost use Rattle.history.specs.Entries.{entryWith};
 ghost use Rattle.report.specs.Line.{newline, usageText, longText, offerLine, refusedLine, lineRoom, Lined};
 
 mod answer_lines;
@@ -12,7 +13,7 @@ mod listings;
 use answer_lines::Summary;
 use answer_lines::put_answer;
 use answer_lines::put_refused;
-use history::Entry;
+use history::EntryHead;
 use history::OfferAnswer;
 pub use listings::MAX_FILE;
 pub use listings::ROOM;
@@ -32,9 +33,10 @@ fn has_room(size: usize, letters: usize) -> bool
 
 // Writes the line of an offer to the front of the buffer, and answers its length: the entry after the call, the answer and the
 // letters of the word. With less room than is asked for nothing is written and the answer is 0.
-pub fn offer_line(entry: Entry, answer: OfferAnswer, letters: &[u8], line: &mut [u8]) -> usize
+pub fn offer_line(entry: EntryHead, answer: OfferAnswer, letters: &[u8], line: &mut [u8]) -> usize
     ensures { λ r. ⌜
-        Lined (lineRoom (now (letters .entry))) (offerLine entry answer (now (letters .entry))) (now (line .entry)) (now (line .exit)) r
+        ((t : List ℕ) → Lined (lineRoom (now (letters .entry))) (offerLine (entryWith entry t) answer (now (letters .entry)))
+        (now (line .entry)) (now (line .exit)) r)
         ⌝ }
 {
     if has_room(line.len(), letters.len()) {

@@ -1,15 +1,17 @@
 // What the program `listing` prints, written into a lent buffer: the calls, with buffers of their own, and the line of their answer.
 ghost use mathlib.Core.Path.{_≡_};
 ghost use Prim.Native.Nat.{_+_, _*_, _≤_};
-ghost use lib.ListN.{length};
+ghost use lib.ListN.{length, replicate};
 ghost use Rattle.report.specs.Line.{Lined};
-ghost use Rattle.report.specs.Listing.{wordBytes, freshEntry, offerListing, openListing, listing};
+ghost use Rattle.report.specs.Listing.{wordBytes, offerListing, openListing, listing};
+ghost use Rattle.history.specs.Entries.{entryWith, freshEntry};
 ghost use Rattle.history.specs.Opens.{openOf};
 use crate::long_line;
 use crate::offer_line;
 use crate::refused_line;
 use crate::usage_line;
-use history::Entry;
+use automaton::Head;
+use history::EntryHead;
 use history::OpenAnswer;
 
 // The longest file that is read.
@@ -18,28 +20,40 @@ pub const MAX_FILE: usize = 65536;
 // The room that is asked for any line of the listing.
 pub const ROOM: usize = 8448;
 
-// An empty entry.
-pub fn fresh() -> Entry
-    ensures { λ r. ⌜ r ≡ freshEntry ⌝ }
+// An empty entry, whose transitions are all zero.
+pub fn fresh() -> EntryHead
+    ensures { λ r. ⌜ entryWith r (replicate 2048 0) ≡ freshEntry ⌝ }
 {
-    Entry {
+    EntryHead {
         filled: false,
         edition: 0,
         first: 0,
-        held: automaton::bare(0, 0, 0),
+        held: Head {
+            states: 0,
+            letters: 0,
+            initial: 0,
+            accepting: [0; 4],
+        },
     }
 }
 
 // Writes the line of an offer to an opened entry.
-fn offer_listing(entry: Entry, offer: &[u8], bound: u64, line: &mut [u8]) -> usize
+fn offer_listing(
+    entry: EntryHead,
+    held: &mut [u8; 2048],
+    offer: &[u8],
+    bound: u64,
+    line: &mut [u8],
+) -> usize
     requires { ⌜ 256 + 4 * wordBytes ≤ length (now line) ⌝ }
     ensures { λ r. ⌜
-        Lined (256 + 4 * wordBytes) (offerListing entry (now (offer .entry)) bound) (now (line .entry)) (now (line .exit)) r
+        Lined (256 + 4 * wordBytes) (offerListing (entryWith entry (now (held .entry))) (now (offer .entry)) bound)
+        (now (line .entry)) (now (line .exit)) r
         ⌝ }
 {
     let mut work = [0u8; 65520];
     let mut word = [0u8; 2048];
-    let result = entry::offer_entry(entry, offer, bound, &mut work, &mut word);
+    let result = entry::offer_entry(entry, held, offer, bound, &mut work, &mut word);
     let answer = result.answer;
     let part = entry::offer_part(answer, &mut word);
     offer_line(result.entry, answer, part, line)
@@ -55,11 +69,12 @@ fn open_listing(first: &[u8], offer: &[u8], bound: u64, line: &mut [u8]) -> usiz
         (now (line .entry)) (now (line .exit)) r
         ⌝ }
 {
-    let opened = entry::open_entry(fresh(), first);
+    let mut held = [0u8; 2048];
+    let opened = entry::open_entry(fresh(), &mut held, first);
     let answer = opened.answer;
     let entry = opened.entry;
     match answer {
-        OpenAnswer::Opened => offer_listing(entry, offer, bound, line),
+        OpenAnswer::Opened => offer_listing(entry, &mut held, offer, bound, line),
         OpenAnswer::Refused(n) => refused_line(n, line),
     }
 }

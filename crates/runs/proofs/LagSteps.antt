@@ -1,11 +1,11 @@
 -- The lag of two run prefixes by induction over the two together, and the counter that follows it: the counter starts at b + 1,
 -- rises to b + 1 where the second run accepts, falls by 1 where only the first does, and stays above 0 exactly when the lag is
 -- at most b. Assumes nothing.
-use mathlib.Core.Path.{_≡_, refl, sym, ap, subst}
-use mathlib.Core.Bool.{Bool, true, false, cond, not}
+use mathlib.Core.Path.{_≡_, refl, sym, subst}
+use mathlib.Core.Bool.{Bool, true, false, not}
 use mathlib.Core.List.{List, [], _∷_}
 use mathlib.Core.Logic.{_↔_}
-use Prim.Native.Nat.{ℕ, zero, suc, _+_, _-_, _≤_, _<_}
+use Prim.Native.Nat.{ℕ, suc, _+_, _-_, _≤_, _<_}
 use native.Mathlib.Omega.{arith}
 use lib.Dec.{T}
 use Rattle.automaton.specs.declared.Automaton.{Automaton}

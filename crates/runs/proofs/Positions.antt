@@ -13,7 +13,7 @@ use lib.ListN.{length, getD, length-map}
 use Rattle.automaton.specs.declared.Automaton.{Automaton}
 use Rattle.automaton.specs.Automata.{accepts}
 use Rattle.runs.specs.Lag.{Ascending, none, more, Lagging, Lags}
-use Rattle.runs.proofs.LagSteps.{Stretch, stop, take, pass, Lag, start, skip, LagIn}
+use Rattle.runs.proofs.LagSteps.{Stretch, stop, take, pass, Lag, start, skip}
 use Rattle.runs.proofs.ShiftedPositions.{mem-shifted, shifted-mem, ascending-shifted, shifted-ascending}
 use Rattle.runs.proofs.ShiftedPositions.{above-zero-shifted, ascending-above-zero}
 
@@ -178,13 +178,4 @@ module _ (A B : Automaton) where
   lag-iff-positions j π ρ l = (
     lag-positions,
     λ n. subst (λ (i : ℕ). Lag A B i π ρ) (n .1) (positions-lag π ρ (n .0) l (n .2)),
-  )
-
-  -- the lag is at most b exactly when there are never more than b positions
-  pub lag-in-iff-positions : (b : ℕ) (π ρ : List ℕ) → length π ≡ length ρ
-      → LagIn A B b π ρ ↔ ((xs : List ℕ) → Lagging A B π ρ xs → length xs ≤ b)
-  unfolding LagIn Lags
-  lag-in-iff-positions b π ρ l = (
-    λ h xs k. h (length xs) (positions-lag π ρ xs l k),
-    λ h j k. let n = lag-positions k in omega (arith, h (n .0) (n .2), n .1),
   )

@@ -11,7 +11,7 @@ use native.Mathlib.Omega.{arith}
 use borrow.Author.Tests.{eq-eqb}
 use lib.Dec.{T}
 use lib.ListN.{length, getD}
-use Rattle.automaton.proofs.Booleans.{T-true, not-T-false, and-both, is-true, clash}
+use Rattle.automaton.proofs.Booleans.{not-T-false, and-both, is-true, clash}
 use Rattle.slots.specs.declared.Vertex.{Vertex}
 use Rattle.slots.specs.Slots.{sameVertex, allZero}
 use Rattle.slots.proofs.Vertices.{same-vertex-eq, all-zero-at}

@@ -9,7 +9,7 @@ use native.Mathlib.Nat.{eq-or-lt-of-le}
 use native.Mathlib.Omega.{arith}
 use borrow.Author.Tests.{ne-eqb}
 use lib.Dec.{ltb, lt→ltb}
-use lib.ListN.{length, getD, set}
+use lib.ListN.{length, getD, set, length-set}
 use lib.Seq.{ext-getD, getD-set-same, getD-set-other}
 use Rattle.automaton.specs.declared.Automaton.{Automaton}
 use Rattle.automaton.specs.Automata.{maxStates, maxLetters, one, accepts, transition, InRange}
@@ -48,12 +48,25 @@ table-is f l n e h =
     ext-getD 0 l (table f n 0) (e ∙ sym (length-table f n 0))
     (λ k i. h k (omega arith) ∙ sym (table-at f n k 0 (omega arith)))
 
--- one element more is written
-pub table-more : (f : ℕ → ℕ) (l : List ℕ) (r y : ℕ) → r < length l → ((k : ℕ) → k < r → getD l k 0 ≡ f k) → y ≡ f r
-    → (k : ℕ) → k < r + 1 → getD (set l r y) k 0 ≡ f k
-table-more f l r y h done e k i =
-    ⊎-elim (λ q. rw q (getD-set-same l r y 0 h ∙ e)) (λ q. getD-set-other l r k y 0 (λ d. absurd (omega arith)) ∙ done k q)
-    (eq-or-lt-of-le {n = k} {m = r} (omega arith))
+-- A loop that writes a table of 32, one element after the other: those below r are written.
+
+pub record Written (f : ℕ → ℕ) (l : List ℕ) (r : ℕ) : Type 0 where
+  pub long : length l ≡ maxStates
+  pub done : (k : ℕ) → k < r → getD l k 0 ≡ f k
+
+module _ {f : ℕ → ℕ} {l : List ℕ} {r : ℕ} where
+  pub written-more : (y : ℕ) → r < maxStates → Written f l r → y ≡ f r → Written f (set l r y) (r + 1)
+  written-more y h W e =
+      record {
+        long = length-set l r y ∙ W .long;
+        done =
+            λ k i.
+            ⊎-elim (λ q. rw q (getD-set-same l r y 0 (omega (arith, W .long)) ∙ e))
+            (λ q. getD-set-other l r k y 0 (λ d. absurd (omega arith)) ∙ W .done k q) (eq-or-lt-of-le {n = k} {m = r} (omega arith));
+      }
+
+  pub written-all : maxStates ≤ r → Written f l r → l ≡ table f maxStates 0
+  written-all h W = table-is f l maxStates (W .long) (λ k i. W .done k (omega arith))
 
 -- The masks of an automaton's transitions show its predecessors: a counter is a byte, so a mask of 255 leaves it as it is.
 

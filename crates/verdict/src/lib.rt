@@ -1,6 +1,6 @@
 // The verdict on a lasso word, with sets of states as words: the states that the stem leads to, for each state what the loop leads to
 // and what it leads to by way of an accepting state, and what copies of the loop join.
-use automaton::Automaton;
+use automaton::Head;
 use automaton::MAX_STATES;
 ghost use mathlib.Core.Path.{_≡_};
 ghost use mathlib.Core.Bool.{_&&_, _||_};
@@ -11,7 +11,7 @@ ghost use lib.ListN.{length, getD};
 ghost use Rattle.automaton.specs.declared.Automaton.{Automaton};
 ghost use Rattle.automaton.specs.Ranges.{some};
 ghost use Rattle.automaton.specs.Sets.{bit};
-ghost use Rattle.automaton.specs.Automata.{transition, InRange};
+ghost use Rattle.automaton.specs.Automata.{transition, wholeOf, InRange};
 ghost use Rattle.automaton.specs.Members.{transitionIn};
 ghost use Rattle.relations.specs.Closure.{related, rowHas};
 ghost use Rattle.lassos.specs.Verdict.{only, onLetter, onWord, loopRuns, loopVisits, accepted};
@@ -312,17 +312,16 @@ fn some_returns(runs: &[u32], visits: &[u32], n: usize, ends: u32) -> bool
 }
 
 // Whether the automaton accepts the lasso word of the stem and the loop `cycle`; of an empty loop the answer is no.
-pub fn accepted(a: Automaton, stem: &[u8], cycle: &[u8]) -> bool
-    requires { ⌜ InRange a ⌝ }
-    ensures { λ r. ⌜ r ≡ accepted a (now (stem .entry)) (now (cycle .entry)) ⌝ }
+pub fn accepted(head: Head, transitions: &[u8; 2048], stem: &[u8], cycle: &[u8]) -> bool
+    requires { ⌜ InRange (wholeOf head (now transitions)) ⌝ }
+    ensures { λ r. ⌜ r ≡ accepted (wholeOf head (now (transitions .entry))) (now (stem .entry)) (now (cycle .entry)) ⌝ }
 {
-    let transitions = a.transitions;
-    let accepting = a.accepting;
-    let letters = a.letters;
-    let n = a.states;
+    let accepting = head.accepting;
+    let letters = head.letters;
+    let n = head.states;
     let mut rows = [0u64; 512];
-    letter_rows(&transitions, letters, &mut rows);
-    let ends = stem_ends(&rows, letters, n, a.initial, stem);
+    letter_rows(transitions, letters, &mut rows);
+    let ends = stem_ends(&rows, letters, n, head.initial, stem);
     let mut runs = [0u32; MAX_STATES];
     let mut visits = [0u32; MAX_STATES];
     loop_rows(

@@ -13,7 +13,6 @@ use Rattle.automaton.specs.Ranges.{table}
 use Rattle.slots.specs.declared.Vertex.{Vertex}
 use Rattle.slots.specs.Slots.{slotCount}
 use Rattle.slots.specs.Bytes.{vertexAt}
-use Rattle.walk.specs.declared.Rules.{Rules}
 use Rattle.graph.specs.Discovery.{Node, Walk, going, ended, full, below, discoverAll, successorsAt, expand, expandAll}
 use Rattle.graph.specs.LagGraph.{successor, successors, lagGraph}
 use Rattle.graph.proofs.Discoveries.{successors-in, expand-all-ended, expand-all-full, expand-all-past}
@@ -22,35 +21,28 @@ use Rattle.discovery.specs.declared.Walked.the-variants.{Going}
 use Rattle.discovery.specs.Representation.{Represents, Becomes}
 use Rattle.discovery.proofs.RepresentedSlots.{slot-represented}
 use Rattle.discovery.proofs.FoldLoops.{Stops, represented-going, FoldLoops, onward-next, onward-stop, onward-end}
-use Rattle.walk.specs.Rules.{RulesOf}
+use Rattle.letters.specs.declared.Rules.{Rules}
+use Rattle.letters.specs.Rules.{RulesOf}
+use Rattle.letters.proofs.LetterSteps.{edgesOn, LetterDone}
 
 -- The letters on which a place is expanded.
 
 module _ (A B : Automaton) (b : ℕ) (v : Vertex) where
-  -- the successors on a letter, and on the letters from a on, of k
-  abbrev pub edgesOn : ℕ → List (ℕ × Vertex)
-  edgesOn a = map (successor A B b v a) (targets A (v .left) a)
-
+  -- the successors on the letters from a on, of k
   abbrev pub edgesFromLetter : ℕ → ℕ → List (ℕ × Vertex)
-  edgesFromLetter k a = flatMap edgesOn (table (λ c. c) (k - a) a)
+  edgesFromLetter k a = flatMap (edgesOn A B b v) (table (λ c. c) (k - a) a)
 
   edges-all : successors A B b v ≡ edgesFromLetter (A .letters) 0
   unfolding successors
-  edges-all = ap (λ (n : ℕ). flatMap edgesOn (table (λ c. c) n 0)) (sym (sub-zero (A .letters)))
+  edges-all = ap (λ (n : ℕ). flatMap (edgesOn A B b v) (table (λ c. c) n 0)) (sym (sub-zero (A .letters)))
 
-  edges-more : (k a : ℕ) → a < k → edgesFromLetter k a ≡ edgesOn a ++ edgesFromLetter k (a + 1)
+  edges-more : (k a : ℕ) → a < k → edgesFromLetter k a ≡ edgesOn A B b v a ++ edgesFromLetter k (a + 1)
   unfolding flatMap table
   edges-more k a h = let q : k - a ≡ suc (k - (a + 1)) = omega arith in rw (q, add-one)
 
   edges-none : (k a : ℕ) → k ≤ a → edgesFromLetter k a ≡ []
   unfolding flatMap table
   edges-none k a h = let q : k - a ≡ 0 = omega arith in rw q
-
--- the answer r and the work buffer are those of the successors on letter a
-abbrev pub LetterDone : Rules → List ℕ → List ℕ → List ℕ → Vertex → ℕ → ℕ → List ℕ → ℕ → List ℕ → Walked → Type 0
-LetterDone rules tops lefts masks v a p before n work r =
-    (A B : Automaton) (b : ℕ) → RulesOf rules tops lefts masks A B b
-    → Becomes before n work r (λ S w. discoverAll (lagGraph A B b) (below S) p w (edgesOn A B b v a))
 
 -- Before letter a: the successors on the letters from a on, discovered, expand place p.
 abbrev pub LettersToGo : Rules → List ℕ → List ℕ → List ℕ → Vertex → ℕ → List ℕ → ℕ → List ℕ → ℕ → ℕ → Type 0

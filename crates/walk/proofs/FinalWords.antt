@@ -23,7 +23,7 @@ use Rattle.graph.proofs.WalkTheorem.{walk-ended, list-links, list-in-range}
 use Rattle.discovery.specs.declared.Walked.the-variants.{Ended}
 use Rattle.discovery.specs.Representation.{Wide, Represents}
 use Rattle.discovery.proofs.RepresentedSlots.{slot-represented, represented-length}
-use Rattle.walk.specs.Rules.{finalWordIn}
+use Rattle.walk.specs.FinalWord.{finalWordIn}
 
 -- What the code reads.
 

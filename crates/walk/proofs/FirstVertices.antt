@@ -6,7 +6,7 @@ use mathlib.Core.List.{List, []}
 use Prim.Native.Nat.{ℕ, _+_, _*_, _≤_, _<_}
 use native.Mathlib.Nat.{mul-le-mul}
 use native.Mathlib.Omega.{arith}
-use lib.ListN.{length}
+use lib.ListN.{length, replicate}
 use Rattle.automaton.specs.declared.Automaton.{Automaton}
 use Rattle.automaton.specs.declared.Head.{Head}
 use Rattle.automaton.specs.Automata.{maxStates, wholeOf, InRange}
@@ -15,7 +15,8 @@ use Rattle.automaton.proofs.Ranges.{length-table}
 use Rattle.slots.specs.declared.Vertex.{Vertex}
 use Rattle.slots.specs.Slots.{slotCount, allZero, noLetter, noParent}
 use Rattle.slots.specs.Bytes.{withSlot}
-use Rattle.classes.specs.Classes.{listedWith}
+use Rattle.classes.specs.Classes.{listedWith, Classes}
+use Rattle.classes.proofs.Appended.{classes-begin}
 use Rattle.classes.proofs.ListedStates.{listed-absent}
 use Rattle.graph.specs.Discovery.{Walk, going, below, discover, begin, expandAll}
 use Rattle.graph.specs.LagGraph.{initialVertex, lagGraph}
@@ -26,11 +27,11 @@ use Rattle.step.proofs.MaskRows.{masks-after}
 use Rattle.step.proofs.SteppedBytes.{accepts-in-range}
 use Rattle.discovery.specs.declared.Walked.{Walked}
 use Rattle.discovery.specs.declared.Walked.the-variants.{Going, Ended, Full}
-use Rattle.discovery.specs.Representation.{Represents}
-use Rattle.discovery.proofs.RepresentedSlots.{represented-none, discover-final, discover-full, discover-with-slot}
+use Rattle.discovery.specs.Representation.{Represents, Ready}
+use Rattle.discovery.proofs.RepresentedSlots.{represented-none, ready-none, ready-with-slot, discover-final, discover-full, discover-with-slot}
 use Rattle.discovery.proofs.FoldLoops.{Stops, represented-going}
-use Rattle.walk.specs.declared.Rules.{Rules}
-use Rattle.walk.specs.Rules.{RulesOf}
+use Rattle.letters.specs.declared.Rules.{Rules}
+use Rattle.letters.specs.Rules.{RulesOf}
 use Rattle.walk.proofs.ExpandLoops.{PlacesDone, stopped-expand-all}
 
 pub initial-wide : (A B : Automaton) (b : ℕ) → length (initialVertex A B b .counters) ≡ maxStates
@@ -98,14 +99,25 @@ module _ (A B : Automaton) (b : ℕ) (first : Vertex) (is : first ≡ initialVer
       stopped work (Full 0) tt
       (began work (Full 0) (discover-full A B b work 0 work [] (represented-none work) noParent noLetter first nothing-listed z h))
 
+  -- work₁ is the buffer with the first vertex in slot 0
   pub first-slot : allZero (first .counters) ≡ false → 0 < slots → length (first .counters) ≡ maxStates
-      → (rules : Rules) (tops lefts masks : List ℕ) → RulesOf rules tops lefts masks A B b → (work′ : List ℕ) (r : Walked)
-      → PlacesDone rules tops lefts masks (withSlot work 0 first noLetter noParent) 1 work′ r → Represents work′ r work (walkOf A B b slots)
+      → (rules : Rules) (tops lefts masks : List ℕ) → RulesOf rules tops lefts masks A B b → (work₁ work′ : List ℕ) (r : Walked)
+      → work₁ ≡ withSlot work 0 first noLetter noParent → PlacesDone rules tops lefts masks work₁ 1 work′ r
+      → Represents work′ r work (walkOf A B b slots)
   unfolding walkOf
-  first-slot z h wide rules tops lefts masks R work′ r done =
+  first-slot z h wide rules tops lefts masks R work₁ work′ r e done =
       let w = withSlot work 0 first noLetter noParent in
       let S =
       began w (Going 1) (discover-with-slot A B b work 0 work [] (represented-none work) noParent noLetter first nothing-listed z h wide) in
       let g = represented-going w (Going 1) 1 work (begin (lagGraph A B b) (below slots)) refl S in
       subst (λ (x : Walk Vertex). Represents work′ r work (expandAll (lagGraph A B b) (below slots) slots 0 x)) (sym (g .1))
-      (done A B b R work (g .0) (g .2))
+      (done A B b R work (g .0) (rw e (g .2)))
+
+-- the index after the first vertex has taken slot 0
+pub ready-first : (first : Vertex) (work work₁ heads nexts listed : List ℕ) → first .left < maxStates → length (first .counters) ≡ maxStates
+    → allZero (first .counters) ≡ false → 0 < slotCount (length work) → work₁ ≡ withSlot work 0 first noLetter noParent
+    → Classes work₁ heads nexts listed 1 → Ready work₁ heads nexts listed 1
+ready-first first work work₁ heads nexts listed small wide z h e K =
+    rw e
+    (ready-with-slot work 0 first noLetter noParent h wide (replicate 4096 0) (replicate 4096 0) (replicate 4096 0) heads nexts listed
+    (ready-none work _ _ _ (classes-begin work)) small z (rw e at K))

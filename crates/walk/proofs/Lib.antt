@@ -1,6 +1,5 @@
 -- How the code of the walk keeps the slots, their index and the steps that are kept.
 pub mod ExpandLoops
-pub mod LetterSteps
 pub mod KeptLoops
 pub mod FirstVertices
 pub mod FinalWords

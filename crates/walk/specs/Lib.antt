@@ -1,3 +1,3 @@
 -- The contracts of the walk's code.
-pub mod Rules
+pub mod FinalWord
 pub mod Ready

@@ -1,192 +1,26 @@
 // The walk of the lag-checking graph: the discovery list, its vertices written into the slots of the work buffer.
 ghost use mathlib.Core.Path.{_≡_};
-ghost use mathlib.Core.Bool.{false, cond};
-ghost use mathlib.Core.List.{map};
-ghost use Prim.Native.Nat.{ℕ, _+_, _<_, _≤_};
-ghost use mathlib.Core.Logic.{_≢_};
-ghost use lib.Dec.{eqb};
-ghost use lib.ListN.{length, getD};
+ghost use mathlib.Core.Bool.{false};
+ghost use Prim.Native.Nat.{ℕ, _<_, _≤_};
+ghost use lib.ListN.{length};
 ghost use Rattle.automaton.specs.declared.Automaton.{Automaton};
-ghost use Rattle.automaton.specs.Automata.{maxStates, maxLetters, targets, wholeOf, InRange};
+ghost use Rattle.automaton.specs.Automata.{maxStates, maxLetters, wholeOf, InRange};
 ghost use Rattle.automaton.specs.Sets.{leastMembers};
 ghost use Rattle.slots.specs.Slots.{slotCount, allZero};
 ghost use Rattle.slots.specs.Bytes.{Falls};
-ghost use Rattle.classes.specs.Classes.{classOf, keyOf, keys, Chained};
-ghost use Rattle.graph.specs.Discovery.{below, discoverAll, expand as expanding, expandAll as expandingAll};
-ghost use Rattle.graph.specs.LagGraph.{maxBound, initialVertex, successor, lagGraph};
+ghost use Rattle.graph.specs.Discovery.{below, expand as expanding, expandAll as expandingAll};
+ghost use Rattle.graph.specs.LagGraph.{maxBound, initialVertex, lagGraph};
 ghost use Rattle.graph.specs.Walks.{walkOf, workAfter, wordAfter};
 ghost use Rattle.step.specs.Masks.{rowPlace};
-ghost use Rattle.step.specs.Steps.{PresentOf};
-ghost use Rattle.discovery.specs.Representation.{walkedOf, vertexOf, Becomes, Ready, ReadyAfter, Grows};
-ghost use Rattle.walk.specs.Rules.{RulesOf, finalWordIn};
-ghost use Rattle.walk.specs.Ready.{TargetsLeft, ReadyNext};
-ghost use Rattle.kept.specs.Kept.{KeptLines, KeptStep};
+ghost use Rattle.discovery.specs.Representation.{walkedOf, Represents, Becomes, Ready};
+ghost use Rattle.kept.specs.Kept.{KeptLines};
+ghost use Rattle.letters.specs.Rules.{RulesOf};
+ghost use Rattle.walk.specs.FinalWord.{finalWordIn};
+ghost use Rattle.walk.specs.Ready.{ReadyNext};
 use automaton::Head;
-use discovery::Sides;
 use discovery::Walked;
+use letters::Rules;
 use slots::Vertex;
-
-// What a walk needs of the two automata besides the arrays that are lent: the number of letters, the right one's number of states, and the
-// accepting states of the left one as a set in a word.
-pub struct Rules {
-    pub letters: usize,
-    pub states: usize,
-    pub accepting: u32,
-}
-
-// The class of the counters after a step, where there is a target; else the class that is kept.
-fn class_after(
-    work: &[u8],
-    heads: &[u16],
-    nexts: &[u16],
-    n: usize,
-    counters: &[u8; 32],
-    key: usize,
-    kept: usize,
-    targets: u32,
-) -> usize
-    requires { ⌜
-        (n ≤ slotCount (length (now work))) × (key ≡ keyOf (now counters)) × (key < keys) × Chained (now work) (now heads) (now nexts) n
-        ⌝ }
-    ensures { λ c. ⌜ c ≡ cond (eqb targets 0) kept (classOf (now (work .entry)) (now (counters .entry)) n) ⌝ }
-{
-    if targets == 0 {
-        return kept;
-    }
-    classes::class_of(work, heads, nexts, n, *counters, key)
-}
-
-// Keys and classes of the counters after a step, on both sides. The class of a side without a target is the one that is kept.
-fn sides_of(
-    work: &[u8],
-    heads: &[u16],
-    nexts: &[u16],
-    n: usize,
-    lowered: &[u8; 32],
-    others: &[u8; 32],
-    low_kept: usize,
-    other_kept: usize,
-    low: u32,
-    other: u32,
-) -> Sides
-    requires { ⌜ (n ≤ slotCount (length (now work))) × Chained (now work) (now heads) (now nexts) n ⌝ }
-    ensures low { λ r. ⌜
-        (r .lowkey ≡ keyOf (now (lowered .entry))) × (r .lowkey < keys)
-        × (r .lowclass ≡ cond (eqb low 0) «low_kept» (classOf (now (work .entry)) (now (lowered .entry)) n))
-        ⌝ }
-    ensures other { λ r. ⌜
-        (r .otherkey ≡ keyOf (now (others .entry))) × (r .otherkey < keys)
-        × (r .otherclass ≡ cond (eqb other 0) «other_kept» (classOf (now (work .entry)) (now (others .entry)) n))
-        ⌝ }
-{
-    let lowkey = classes::key_of(lowered);
-    let otherkey = classes::key_of(others);
-    let lowclass = class_after(work, heads, nexts, n, lowered, lowkey, low_kept, low);
-    let otherclass = class_after(work, heads, nexts, n, others, otherkey, other_kept, other);
-    Sides {
-        lowkey,
-        lowclass,
-        otherkey,
-        otherclass,
-    }
-}
-
-// The targets of both sides that are not listed with the class of their side.
-fn targets_left(listed: &[u32], lowclass: usize, otherclass: usize, low: u32, other: u32) -> u32
-    requires { ⌜ (lowclass ≤ length (now listed)) × (otherclass ≤ length (now listed)) ⌝ }
-    ensures { λ r. ⌜ TargetsLeft (now (listed .entry)) lowclass otherclass low other r ⌝ }
-{
-    classes::unlisted(listed, lowclass, low) | classes::unlisted(listed, otherclass, other)
-}
-
-// The successors on a letter of the vertex at place p, which has this left state and these counters. The step's classes are kept at two places
-// from `at` on: where they are known and all targets are listed with them, nothing is done.
-fn expand_letter(
-    rules: Rules,
-    tops: &[u8; 32],
-    lefts: &[u8; 2048],
-    masks: &[u8],
-    work: &mut [u8],
-    heads: &mut [u16],
-    nexts: &mut [u16],
-    listed: &mut [u32],
-    kept: &mut [u16],
-    n: usize,
-    p: usize,
-    left: usize,
-    counters: &[u8; 32],
-    count: usize,
-    places: &[u8; 32],
-    letter: usize,
-    at: usize,
-    table: &[u8; 256],
-) -> Walked
-    requires { ⌜
-        Ready (now work) (now heads) (now nexts) (now listed) n × (p < 65536) × (left < maxStates) × (letter < rules .letters)
-        × (rules .letters ≤ maxLetters) × (rules .states ≤ maxStates) × (rowPlace (rules .states) (rules .letters) 0 ≤ length (now masks))
-        × PresentOf count (now places) (now counters) (rules .states) × (at + 2 ≤ length (now kept)) × (now table ≡ leastMembers)
-        × KeptStep (now tops) (now masks) (rules .states) (now work) n (now kept) at letter (now counters)
-        ⌝ }
-    ensures represents { λ r. ⌜
-        ((A B : Automaton) (b : ℕ) → RulesOf rules (now (tops .entry)) (now (lefts .entry)) (now (masks .entry)) A B b
-        → Becomes (now (work .entry)) n (now (work .exit)) r
-        (λ S w. discoverAll (lagGraph A B b) (below S) p w
-        (map (successor A B b (vertexOf left (now (counters .entry))) letter) (targets A left letter))))
-        ⌝ }
-    ensures ready { λ r. ⌜ ReadyAfter r (now (work .exit)) (now (heads .exit)) (now (nexts .exit)) (now (listed .exit)) ⌝ }
-    ensures grows { λ r. ⌜ Grows (now (work .entry)) n (now (work .exit)) r ⌝ }
-    ensures step { λ r. ⌜
-        KeptStep (now (tops .entry)) (now (masks .entry)) (rules .states) (now (work .entry)) n (now (kept .exit)) at letter
-        (now (counters .entry))
-        ⌝ }
-    ensures others { λ r. ⌜
-        ((i : ℕ) → i ≢ at → i ≢ at + 1 → getD (now (kept .exit)) i 0 ≡ getD (now (kept .entry)) i 0)
-        ⌝ }
-{
-    let targets = relations::row(lefts, left, letter);
-    let low = targets & rules.accepting;
-    let other = targets ^ low;
-    let low_kept = kept[at] as usize;
-    let other_kept = kept[at + 1] as usize;
-    if targets_left(listed, low_kept, other_kept, low, other) == 0 {
-        return Walked::Going(n);
-    }
-    let largest = step::largest_into(masks, rules.states, letter, count, places, counters);
-    let lowered = step::counters_after(tops, 1, largest);
-    let others = step::counters_after(tops, 0, largest);
-    let sides = sides_of(
-        work,
-        heads,
-        nexts,
-        n,
-        &lowered,
-        &others,
-        low_kept,
-        other_kept,
-        low,
-        other,
-    );
-    let lowclass = sides.lowclass;
-    let otherclass = sides.otherclass;
-    kept[at] = lowclass as u16;
-    kept[at + 1] = otherclass as u16;
-    let unlisted = targets_left(listed, lowclass, otherclass, low, other);
-    discovery::discover_targets(
-        work,
-        heads,
-        nexts,
-        listed,
-        n,
-        p,
-        letter as u8,
-        rules.accepting,
-        unlisted,
-        &lowered,
-        &others,
-        sides,
-        table,
-    )
-}
 
 // Expands place p: all successors of its vertex, letters upwards, left targets upwards.
 fn expand(
@@ -229,7 +63,7 @@ fn expand(
     let mut count = n;
     let mut letter: usize = 0;
     while letter < letters {
-        let seen = expand_letter(
+        let seen = letters::expand_letter(
             rules,
             tops,
             lefts,
@@ -309,28 +143,24 @@ fn expand_all(
     Walked::Going(count)
 }
 
-// The walk from the first vertex on, which is not final and for which there is a slot. The masks are as many as the two automata need.
+// The walk from the first vertex on, which is not final and for which there is a slot.
 fn walk_from(
-    left: Head,
+    rules: Rules,
+    tops: &[u8; 32],
     lefts: &[u8; 2048],
-    right: Head,
-    rights: &[u8; 2048],
-    bound: usize,
+    masks: &[u8],
     work: &mut [u8],
     first: Vertex,
 ) -> Walked
     requires { ⌜
-        InRange (wholeOf left (now lefts)) × InRange (wholeOf right (now rights)) × (bound ≤ maxBound)
-        × (first ≡ initialVertex (wholeOf left (now lefts)) (wholeOf right (now rights)) bound) × (allZero (first .counters) ≡ false)
-        × (0 < slotCount (length (now work)))
+        (first .left < maxStates) × (length (first .counters) ≡ maxStates) × (allZero (first .counters) ≡ false)
+        × (0 < slotCount (length (now work))) × (rules .letters ≤ maxLetters) × (rules .states ≤ maxStates)
+        × (rowPlace (rules .states) (rules .letters) 0 ≤ length (now masks))
         ⌝ }
-    ensures answer { λ r. ⌜
-        r ≡ walkedOf (slotCount (length (now (work .entry))))
-        (walkOf (wholeOf left (now (lefts .entry))) (wholeOf right (now (rights .entry))) bound (slotCount (length (now (work .entry)))))
-        ⌝ }
-    ensures bytes { λ _. ⌜
-        now (work .exit) ≡ workAfter (now (work .entry))
-        (walkOf (wholeOf left (now (lefts .entry))) (wholeOf right (now (rights .entry))) bound (slotCount (length (now (work .entry)))))
+    ensures { λ r. ⌜
+        ((A B : Automaton) (b : ℕ) → RulesOf rules (now (tops .entry)) (now (lefts .entry)) (now (masks .entry)) A B b
+        → first ≡ initialVertex A B b
+        → Represents (now (work .exit)) r (now (work .entry)) (walkOf A B b (slotCount (length (now (work .entry))))))
         ⌝ }
 {
     let mut heads = [0u16; slots::MAX_SLOTS];
@@ -350,41 +180,12 @@ fn walk_from(
         key,
         0,
     );
-    let left_accepting = left.accepting;
-    let right_accepting = right.accepting;
-    let letters = left.letters;
-    let states = right.states;
-    let accepting = relations::of_bytes(&left_accepting);
-    let rules = Rules {
-        letters,
-        states,
-        accepting,
-    };
-    let tops = step::tops_of(&right_accepting, (bound + 1) as u8);
     let table = automaton::least_members();
-    if letters * states <= 64 {
-        let mut masks = [0u8; 2048];
-        step::masks::fill(&mut masks, rights, states, letters);
-        return expand_all(
-            rules,
-            &tops,
-            lefts,
-            &masks,
-            work,
-            &mut heads,
-            &mut nexts,
-            &mut listed,
-            1,
-            &table,
-        );
-    }
-    let mut masks = [0u8; 16384];
-    step::masks::fill(&mut masks, rights, states, letters);
     expand_all(
         rules,
-        &tops,
+        tops,
         lefts,
-        &masks,
+        masks,
         work,
         &mut heads,
         &mut nexts,
@@ -395,7 +196,7 @@ fn walk_from(
 }
 
 // The walk of the lag-checking graph of two automata at a bound; their transitions are lent. The slots that it takes are written from the start
-// of work. The initial vertex comes before any array is cleared.
+// of work. The initial vertex comes before any array is cleared, and no more masks are cleared than the two automata need.
 pub fn walk(
     left: Head,
     lefts: &[u8; 2048],
@@ -430,7 +231,23 @@ pub fn walk(
     if slots::slot_count(work.len()) == 0 {
         return Walked::Full(0);
     }
-    walk_from(left, lefts, right, rights, bound, work, first)
+    let letters = left.letters;
+    let states = right.states;
+    let accepting = relations::of_bytes(&left_accepting);
+    let rules = Rules {
+        letters,
+        states,
+        accepting,
+    };
+    let tops = step::tops_of(&right_accepting, (bound + 1) as u8);
+    if letters * states <= 64 {
+        let mut masks = [0u8; 2048];
+        step::masks::fill(&mut masks, rights, states, letters);
+        return walk_from(rules, &tops, lefts, &masks, work, first);
+    }
+    let mut masks = [0u8; 16384];
+    step::masks::fill(&mut masks, rights, states, letters);
+    walk_from(rules, &tops, lefts, &masks, work, first)
 }
 
 // Writes the word of a final vertex, which stands at a place and was found by a letter from the vertex at place parent, to the

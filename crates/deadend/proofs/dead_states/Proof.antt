@@ -1,6 +1,8 @@
 -- `deadend::dead_states` meets its contract: the flags of the set of dead states are their table. Assumes nothing.
 use mathlib.Core.Path.{_∙_}
+use denote.Ref.{now}
 use borrow.Author.Needs.{needs}
+use Rattle.automaton.specs.Automata.{wholeOf}
 use Rattle.deadend.proofs.WordDeadEnds.{dead-flags}
 use Rattle.deadend.proofs.dead_states.Statement.{statement}
 use Rattle.deadend.proofs.dead_states.Tie as tie
@@ -12,7 +14,10 @@ flags-requires : tie.Need-flags-requires
 flags-requires c κs = search needs
 
 returns : tie.Need-returns
-returns c = c .flags .ensures ∙ dead-flags (c .before .before .args .a) (c .before .dead-set .result) (c .before .dead-set .ensures)
+returns c =
+    let a = c .before .before .args in
+    c .flags .ensures
+    ∙ dead-flags (wholeOf (a .head) (now (a .transitions))) (c .before .dead-set .result) (c .before .dead-set .ensures)
 
 pub dead-states-spec : {M : Type 1} → statement M
 dead-states-spec = tie.close (tie.spec dead-set-requires flags-requires returns)

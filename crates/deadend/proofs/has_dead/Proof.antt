@@ -1,24 +1,23 @@
--- `deadend::has_dead` meets its contract: the automaton is its head with its transitions. Assumes nothing.
-use mathlib.Core.Path.{sym, ap, subst, _∙_}
+-- `deadend::has_dead` meets its contract: the set of dead states has a state where some state is dead. Assumes nothing.
+use mathlib.Core.Path.{_∙_}
+use denote.Ref.{now}
 use borrow.Author.Needs.{needs}
-use Rattle.automaton.specs.Automata.{InRange}
-use Rattle.automaton.proofs.Heads.{whole-of-head}
-use Rattle.deadstates.specs.DeadEnds.{hasDead}
+use Rattle.automaton.specs.Automata.{wholeOf}
+use Rattle.deadend.proofs.WordDeadEnds.{dead-any}
 use Rattle.deadend.proofs.has_dead.Statement.{statement}
 use Rattle.deadend.proofs.has_dead.Tie as tie
 
-head-of-requires : tie.Need-head-of-requires
-head-of-requires c κs = search needs
+dead-set-requires : tie.Need-dead-set-requires
+dead-set-requires c κs = search needs
 
-has-dead-in-requires : tie.Need-has-dead-in-requires
-has-dead-in-requires c κs =
-    let entry = c .before .before .before in
-    subst InRange (sym (whole-of-head (entry .args .t1) _ (c .before .before .head-of .ensures))) (entry .pre)
+has-state-requires : tie.Need-has-state-requires
+has-state-requires c κs = search needs
 
 returns : tie.Need-returns
 returns c =
-    let entry = c .before .before .before .before in
-    c .has-dead-in .ensures ∙ ap hasDead (whole-of-head (entry .args .t1) _ (c .before .before .before .head-of .ensures))
+    let a = c .before .before .args in
+    c .has-state .ensures
+    ∙ dead-any (wholeOf (a .head) (now (a .transitions))) (c .before .dead-set .result) (c .before .dead-set .ensures)
 
 pub has-dead-spec : {M : Type 1} → statement M
-has-dead-spec = tie.close (tie.spec head-of-requires has-dead-in-requires returns)
+has-dead-spec = tie.close (tie.spec dead-set-requires has-state-requires returns)

@@ -31,8 +31,8 @@ returns c =
     let s = c .before .before .before .before .before .before .before .before .before .before .before in
     let a = s .args in
     let v = vertexOf (a .left) (a .counters .now) in
-    let z = sym (all-zero-is (a .counters .now) (s .pre .3)) ∙ sym (c .before .all-zero .ensures) ∙ c .if2 .taken in (
-      λ A B b start ns S. discover-final A B b (a .work .now) (a .n) start ns S (a .p) (a .letter) v (s .pre .7) z,
+    let z = sym (all-zero-is (a .counters .now) (s .pre .3 .keyed .long)) ∙ sym (c .before .all-zero .ensures) ∙ c .if2 .taken in (
+      λ A B b start ns S. discover-final A B b (a .work .now) (a .n) start ns S (a .p) (a .letter) v (s .pre .3 .unlisted) z,
       (tt, (record { slots = λ i l. refl; no-fewer = tt }, tt)),
     )
 
@@ -44,7 +44,7 @@ append-requires c κs =
     let y = c .before .before .before .before .before in
     let s = y .before .before .before .before .before .before .before .before .before .before .before in
     let free = rw (y .before .slot-count .ensures) at (y .if3 .taken) in
-    (free, s .pre .1, s .pre .2, s .pre .4, s .pre .5, s .pre .0 .index, y .before .before .before .class-now .ensures)
+    (free, s .pre .1, s .pre .2, s .pre .3 .keyed .key-is, s .pre .3 .keyed .key-below, s .pre .0 .index, y .before .before .before .class-now .ensures)
 
 add-t35 : tie.Need-add-t35
 add-t35 c = search needs
@@ -71,19 +71,19 @@ returns-2 c =
     let v = vertexOf (a .left) (a .counters .now) in
     let free = rw (y .before .slot-count .ensures) at (y .if3 .taken) in
     let z : allZero (a .counters .now) ≡ false =
-    ⊎-elim (λ w. sym (all-zero-is (a .counters .now) (s .pre .3)) ∙ sym (w .1 .ensures) ∙ w .2 .left)
+    ⊎-elim (λ w. sym (all-zero-is (a .counters .now) (s .pre .3 .keyed .long)) ∙ sym (w .1 .ensures) ∙ w .2 .left)
     (λ w. class-alive (a .work .now) (a .heads .now) (a .nexts .now) (a .listed .now) (a .counters .now) (a .n) (k .result) (s .pre .0) (k .ensures)
     (w .left))
     (y .before .before .if1 .came) in
     let w = x .append .ensures in (
-      λ A B b start ns S. rw (w .0) (discover-with-slot A B b (a .work .now) (a .n) start ns S (a .p) (a .letter) v (s .pre .7) z free (s .pre .3)),
+      λ A B b start ns S. rw (w .0) (discover-with-slot A B b (a .work .now) (a .n) start ns S (a .p) (a .letter) v (s .pre .3 .unlisted) z free (s .pre .3 .keyed .long)),
       (
         rw (w .0)
-            (ready-with-slot (a .work .now) (a .n) v (a .letter) (a .p) free (s .pre .3) (a .heads .now) (a .nexts .now) (a .listed .now) _ _ _
+            (ready-with-slot (a .work .now) (a .n) v (a .letter) (a .p) free (s .pre .3 .keyed .long) (a .heads .now) (a .nexts .now) (a .listed .now) _ _ _
             (s .pre .0) (s .pre .2) z (rw (w .0) at (w .1 .1 .1 .1))),
         (
-          rw (w .0) (grows-with-slot (a .work .now) (a .n) v (a .letter) (a .p) free (s .pre .3)),
-          (refl, rw (w .0) (taken-slot (a .work .now) (a .n) v (a .letter) (a .p) free (s .pre .3))),
+          rw (w .0) (grows-with-slot (a .work .now) (a .n) v (a .letter) (a .p) free (s .pre .3 .keyed .long)),
+          (refl, rw (w .0) (taken-slot (a .work .now) (a .n) v (a .letter) (a .p) free (s .pre .3 .keyed .long))),
         ),
       ),
     )
@@ -105,11 +105,11 @@ returns-3 c =
     let none = rw (c .before .slot-count .ensures) at (c .if3 .left) in
     let k = c .before .before .before .class-now in
     let z : allZero (a .counters .now) ≡ false =
-    ⊎-elim (λ w. sym (all-zero-is (a .counters .now) (s .pre .3)) ∙ sym (w .1 .ensures) ∙ w .2 .left)
+    ⊎-elim (λ w. sym (all-zero-is (a .counters .now) (s .pre .3 .keyed .long)) ∙ sym (w .1 .ensures) ∙ w .2 .left)
     (λ w. class-alive (a .work .now) (a .heads .now) (a .nexts .now) (a .listed .now) (a .counters .now) (a .n) (k .result) (s .pre .0) (k .ensures)
     (w .left))
     (c .before .before .if1 .came) in (
-      λ A B b start ns S. discover-full A B b (a .work .now) (a .n) start ns S (a .p) (a .letter) v (s .pre .7) z none,
+      λ A B b start ns S. discover-full A B b (a .work .now) (a .n) start ns S (a .p) (a .letter) v (s .pre .3 .unlisted) z none,
       (tt, (record { slots = λ i l. refl; no-fewer = tt }, tt)),
     )
 

@@ -12,7 +12,7 @@ use Rattle.discovery.specs.declared.Walked.the-variants.{Going}
 use Rattle.discovery.specs.Representation.{Ready, Grows}
 use Rattle.discovery.proofs.LeastStates.{least-there, states-without, states-none}
 use Rattle.discovery.proofs.FoldLoops.{other-stops}
-use Rattle.discovery.proofs.LeftTargets.{grows-none, grows-on, TargetsReady, targets-ready, side-ready, targets-kept, TargetsToGo, targets-end, targets-stop, targets-next}
+use Rattle.discovery.proofs.LeftTargets.{grows-none, grows-on, TargetsReady, targets-ready, targets-kept, TargetsToGo, targets-end, targets-stop, targets-next}
 use Rattle.discovery.proofs.discover_targets.Statement.{statement}
 use Rattle.discovery.proofs.discover_targets.Tie as tie
 
@@ -20,7 +20,7 @@ abbrev Inv-loop : tie.InvT-loop
 Inv-loop work₀ heads₀ nexts₀ listed₀ n p letter accepting targets lowered others sides table rest₀ count₀ work heads nexts listed rest count =
     (rest < 2 ^ 32) × (length work ≡ length work₀) × (length heads ≡ length heads₀) × (length nexts ≡ length nexts₀) × (length listed ≡ length listed₀)
     × Ready work heads nexts listed count × Grows work₀ n work (Going count)
-    × TargetsReady n work count accepting rest lowered others sides
+    × TargetsReady n accepting lowered others sides work count rest
     × TargetsToGo letter accepting lowered others p work₀ n targets work count rest
 
 abbrev μ-loop : tie.MeasureT-loop
@@ -61,7 +61,7 @@ discover-target-requires c κs =
       l .inv .5,
       s .pre .1,
       h .0,
-      side-ready (a .n) (a .accepting) (a .lowered .now) (a .others .now) (a .sides) (l .work) (l .count) (l .rest) (l .inv .7) (t .result) (h .1),
+      l .inv .7 (t .result) (h .1),
     )
 
 enum-known-seen : tie.Need-enum-known-seen Inv-loop μ-loop

@@ -15,8 +15,8 @@ print-decimal-requires c κs = search needs
 
 show-automaton-requires : tie.Need-show-automaton-requires
 show-automaton-requires c κs =
-    let r = c .before .before .before .read in
-    reading-in-range _ (r .result) (r .ensures) (c .if1 .taken)
+    let r = c .before .before .before .before .read in
+    reading-in-range _ (r .result) _ (r .ensures .0) (r .ensures .1) (c .before .if1 .taken)
 
 slice-aggregate-write-all : tie.Need-slice-aggregate-write-all
 slice-aggregate-write-all c = search needs

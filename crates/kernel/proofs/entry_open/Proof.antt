@@ -1,10 +1,10 @@
 -- `kernel::entry_open` meets its contract: bytes of no entry are refused and stay; of an entry's bytes open decides, and opened alone
 -- writes them. Assumes nothing.
-use mathlib.Core.Path.{sym, ap, _∙_}
-use native.Mathlib.Omega.{arith}
+use mathlib.Core.Path.{sym, subst, _∙_}
+use Prim.Native.Nat.{_^_, _<_}
 use borrow.Author.Needs.{needs}
 use borrow.Author.Tests.{not-true, not-false}
-use Rattle.history.specs.declared.OpenResult.{OpenResult}
+use Rattle.history.specs.declared.OpenAnswer.{OpenAnswer}
 use Rattle.boundary.specs.Numbers.{openNumber}
 use Rattle.kernel.proofs.EntryCallLaws.{entry-long, open-number-fits, opened-result-fits, no-entry-open, entry-opened}
 use Rattle.kernel.proofs.BytesDemand1.{entry-open-demand-1}
@@ -24,7 +24,7 @@ returns c =
     (sym (d .0), (sym (d .1), entry-open-demand-1 _ _))
 
 decode-requires : tie.Need-decode-requires
-decode-requires c κs = entry-long _ (sym (c .before .before .is-entry .ensures) ∙ not-false _ (c .before .if1 .left))
+decode-requires c κs = let else = c .before .before in entry-long _ (sym (else .before .is-entry .ensures) ∙ not-false _ (else .if1 .left))
 
 open-entry-requires : tie.Need-open-entry-requires
 open-entry-requires c κs = search needs
@@ -34,22 +34,16 @@ is-opened-requires c κs = search needs
 
 store-requires : tie.Need-store-requires
 store-requires c κs =
-    let o = c .before .before .open-entry in
-    let else = c .before .before .before .before .before in (
+    let o = c .before .before .before .open-entry in
+    let else = c .before .before .before .before .before .before .before .before in (
       entry-long _ (sym (else .before .is-entry .ensures) ∙ not-false _ (else .if1 .left)),
-      λ e. opened-result-fits _ _ (o .result) (o .ensures .0) (sym (c .before .is-opened .ensures) ∙ e),
+      λ e. opened-result-fits _ _ _ (o .result .answer) (o .ensures .0) (o .ensures .1 .0) (sym (c .before .before .is-opened .ensures) ∙ e),
     )
 
 open-number-requires : tie.Need-open-number-requires
 open-number-requires c κs =
-    let a = c .before .before .before .before .before .before .before .before .before .before .before .before .before .args in
-    let o = c .before .before .before .before .before .open-entry in
-    let d = c .before .before .before .before .before .before .decode in
-    omega (
-      arith,
-      ap (λ (R : OpenResult). openNumber (R .answer)) (o .ensures .0),
-      open-number-fits (d .result) (a .file .now),
-    )
+    let o = c .before .before .before .before .before .before .open-entry in
+    subst (λ (x : OpenAnswer). openNumber x < 2 ^ 64) (sym (o .ensures .0)) (open-number-fits _ _)
 
 same-length-2 : tie.Need-same-length-2
 same-length-2 c = search needs
@@ -57,12 +51,12 @@ same-length-2 c = search needs
 returns-2 : tie.Need-returns-2
 returns-2 c =
     let k = c .before .before .before in
-    let o = k .before .before .before .open-entry in
-    let d = k .before .before .before .before .decode in
-    let else = k .before .before .before .before .before .before in
+    let o = k .before .before .before .before .open-entry in
+    let d = k .before .before .before .before .before .before .decode in
+    let else = k .before .before .before .before .before .before .before .before .before in
     let i = sym (else .before .is-entry .ensures) ∙ not-false _ (else .if1 .left) in
-    let p = entry-opened _ _ (d .result) (o .result) (k .before .before .is-opened .result) _ _ i (d .ensures) (o .ensures .0)
-    (k .before .before .is-opened .ensures) (c .open-number .ensures) (k .store .ensures) in
+    let p = entry-opened _ _ _ _ (o .result .answer) (k .before .before .before .is-opened .result) _ _ i (d .ensures) (o .ensures .0)
+    (o .ensures .1 .0) (k .before .before .before .is-opened .ensures) (c .open-number .ensures) (k .store .ensures) in
     (p .0, (p .1, entry-open-demand-1 _ _))
 
 pub entry-open-spec : {M : Type 1} → statement M

@@ -1,9 +1,10 @@
 -- `kernel::entry_verdict` meets its contract: bytes of no entry are refused, and of an entry's bytes verdict decides. Assumes nothing.
-use mathlib.Core.Path.{sym, ap, _∙_}
-use native.Mathlib.Omega.{arith}
+use mathlib.Core.Path.{sym, ap, subst, _∙_}
+use Prim.Native.Nat.{_^_, _<_}
 use borrow.Author.Needs.{needs}
 use borrow.Author.Tests.{not-true, not-false}
 use Rattle.history.specs.declared.Entry.{Entry}
+use Rattle.history.specs.declared.VerdictAnswer.{VerdictAnswer}
 use Rattle.history.specs.Verdicts.{verdictOf}
 use Rattle.boundary.specs.Numbers.{verdictNumber}
 use Rattle.kernel.proofs.EntryCallLaws.{entry-long, verdict-number-fits, no-entry-verdict, entry-verdict-number}
@@ -18,28 +19,22 @@ returns : tie.Need-returns
 returns c = (sym (no-entry-verdict _ _ _ (sym (c .before .is-entry .ensures) ∙ not-true _ (c .if1 .taken))), entry-verdict-demand-1 _ _ _)
 
 decode-requires : tie.Need-decode-requires
-decode-requires c κs = entry-long _ (sym (c .before .is-entry .ensures) ∙ not-false _ (c .if1 .left))
+decode-requires c κs = entry-long _ (sym (c .before .before .is-entry .ensures) ∙ not-false _ (c .before .if1 .left))
 
 verdict-requires : tie.Need-verdict-requires
 verdict-requires c κs = search needs
 
 verdict-number-requires : tie.Need-verdict-number-requires
-verdict-number-requires c κs =
-    let a = c .before .before .before .before .before .before .before .args in
-    omega (
-      arith,
-      ap verdictNumber (c .verdict .ensures .0),
-      verdict-number-fits (c .before .decode .result) (a .stem .now) (a .cycle .now),
-    )
+verdict-number-requires c κs = subst (λ (x : VerdictAnswer). verdictNumber x < 2 ^ 64) (sym (c .verdict .ensures .0)) (verdict-number-fits _ _ _)
 
 returns-2 : tie.Need-returns-2
 returns-2 c =
-    let a = c .before .before .before .before .before .before .before .before .args in
-    let k = c .before .before .before in
-    let e = sym (k .before .is-entry .ensures) ∙ not-false _ (k .if1 .left) in (
+    let a = c .before .before .before .before .before .before .before .before .before .before .args in
+    let else = c .before .before .before .before .before in
+    let e = sym (else .before .is-entry .ensures) ∙ not-false _ (else .if1 .left) in (
       c .verdict-number .ensures
           ∙ ap verdictNumber
-          (c .before .verdict .ensures .0 ∙ ap (λ (E : Entry). verdictOf E (a .stem .now) (a .cycle .now)) (c .before .before .decode .ensures))
+          (c .before .verdict .ensures .0 ∙ ap (λ (E : Entry). verdictOf E (a .stem .now) (a .cycle .now)) (c .before .before .before .decode .ensures))
           ∙ sym (entry-verdict-number _ _ _ e),
       entry-verdict-demand-1 _ _ _,
     )

@@ -2,6 +2,7 @@
 use mathlib.Core.Path.{ap, sym, _∙_}
 use mathlib.Core.Bool.{Bool}
 use borrow.Author.Needs.{needs}
+use Rattle.history.specs.Entries.{entryWith}
 use Rattle.kernel.specs.EntryCalls.{stored}
 use Rattle.kernel.proofs.store.Statement.{statement}
 use Rattle.kernel.proofs.store.Tie as tie
@@ -16,7 +17,7 @@ returns : tie.Need-returns
 returns c =
     let then = c .before .before .before .before in
     let a = then .before .before .args in
-    c .before .before .encode .ensures ∙ sym (ap (λ (w : Bool). stored w (a .entry) (a .bytes .now)) (then .if1 .taken))
+    c .before .before .encode .ensures ∙ sym (ap (λ (w : Bool). stored w (entryWith (a .entry) (a .held .now)) (a .bytes .now)) (then .if1 .taken))
 
 returns-2 : tie.Need-returns-2
 returns-2 c = search needs

@@ -1,25 +1,23 @@
 -- `step::counters_after` meets its contract. The loop's invariant: the counters written so far are those of the table. Assumes nothing.
-use mathlib.Core.Path.{_≡_, _∙_}
-use Prim.Native.Nat.{ℕ, _-_, _≤_, _<_}
+use Prim.Native.Nat.{_-_, _≤_}
 use native.Mathlib.Omega.{arith}
 use borrow.Author.Count.{below-none}
 use borrow.Author.Needs.{needs}
-use lib.ListN.{length, getD, length-set}
+use lib.ListN.{getD}
 use Rattle.automaton.specs.Automata.{maxStates}
 use Rattle.step.specs.Steps.{counterAt, countersFrom}
-use Rattle.step.proofs.SteppedBytes.{table-is, table-more}
+use Rattle.step.proofs.SteppedBytes.{Written, written-more, written-all}
 use Rattle.step.proofs.counters_after.Statement.{statement}
 use Rattle.step.proofs.counters_after.Tie as tie
 
 abbrev Inv-loop : tie.InvT-loop
-Inv-loop tops visits largest after₀ r₀ after r = (r ≤ maxStates) × (length after ≡ maxStates)
-    × ((k : ℕ) → k < r → getD after k 0 ≡ counterAt (getD tops k 0) visits (getD largest k 0))
+Inv-loop tops visits largest after₀ r₀ after r = (r ≤ maxStates) × Written (λ k. counterAt (getD tops k 0) visits (getD largest k 0)) after r
 
 abbrev μ-loop : tie.MeasureT-loop
 μ-loop tops visits largest after₀ r₀ after r = maxStates - r
 
 loop-holds : tie.Need-loop-holds Inv-loop μ-loop
-loop-holds c = (search needs, search needs, below-none _)
+loop-holds c = (search needs, record { long = search needs; done = below-none _ })
 
 element-copy-out-counter-at : tie.Need-element-copy-out-counter-at Inv-loop μ-loop
 element-copy-out-counter-at c = search needs
@@ -40,22 +38,11 @@ loop-less : tie.Need-loop-less Inv-loop μ-loop
 loop-less c = search needs
 
 loop-again : tie.Need-loop-again Inv-loop μ-loop
-loop-again c =
-    let l = c .before .before .before .loop in
-    let a = c .before .before .before .before .args in (
-      search needs,
-      length-set (l .after) _ _ ∙ l .inv .1,
-      table-more (λ k. counterAt (getD (a .tops .now) k 0) (a .visits) (getD (a .t3) k 0)) (l .after) (l .r) _
-          (omega arith) (l .inv .2) (c .counter-at .ensures),
-    )
+loop-again c = (search needs, written-more _ (omega arith) (c .before .before .before .loop .inv .1) (c .counter-at .ensures))
 
 returns : tie.Need-returns Inv-loop μ-loop
 unfolding countersFrom
-returns c =
-    let l = c .before .loop in
-    let a = c .before .before .args in
-    table-is (λ k. counterAt (getD (a .tops .now) k 0) (a .visits) (getD (a .t3) k 0)) (l .after) maxStates (l .inv .1)
-    (λ k h. l .inv .2 k (omega arith))
+returns c = written-all (omega arith) (c .before .loop .inv .1)
 
 pub counters-after-spec : {M : Type 1} → statement M
 counters-after-spec =

@@ -1,26 +1,26 @@
 -- `step::raised` meets its contract. The counters below the present one are raised, the others are as they were. Assumes nothing.
 use mathlib.Core.Path.{_≡_, refl, _∙_, ap₂}
-use Prim.Native.Nat.{ℕ, _+_, _-_, _≤_, _<_, max, min}
+use Prim.Native.Nat.{ℕ, _+_, _-_, _≤_, max, min}
 use native.Mathlib.Omega.{arith}
 use borrow.Author.Count.{below-none}
 use borrow.Author.Needs.{needs}
-use lib.ListN.{length, getD, length-set}
+use lib.ListN.{getD}
 use lib.Seq.{getD-set-other}
 use Rattle.automaton.specs.Automata.{maxStates}
-use Rattle.step.proofs.SteppedBytes.{table-is, table-more}
+use Rattle.step.proofs.SteppedBytes.{Written, written-more, written-all}
 use Rattle.step.proofs.raised.Statement.{statement}
 use Rattle.step.proofs.raised.Tie as tie
 
 abbrev Inv-loop : tie.InvT-loop
-Inv-loop masks at counter after₀ r₀ after r = (r ≤ maxStates) × (length after ≡ maxStates)
-    × ((k : ℕ) → k < r → getD after k 0 ≡ max (getD after₀ k 0) (min counter (getD masks (at + k) 0)))
+Inv-loop masks at counter after₀ r₀ after r = (r ≤ maxStates)
+    × Written (λ k. max (getD after₀ k 0) (min counter (getD masks (at + k) 0))) after r
     × ((k : ℕ) → r ≤ k → getD after k 0 ≡ getD after₀ k 0)
 
 abbrev μ-loop : tie.MeasureT-loop
 μ-loop masks at counter after₀ r₀ after r = maxStates - r
 
 loop-holds : tie.Need-loop-holds Inv-loop μ-loop
-loop-holds c = (search needs, search needs, below-none _, λ k h. refl)
+loop-holds c = (search needs, record { long = search needs; done = below-none _ }, λ k h. refl)
 
 array-read-larger : tie.Need-array-read-larger Inv-loop μ-loop
 array-read-larger c = search needs
@@ -48,22 +48,14 @@ loop-less c = search needs
 
 loop-again : tie.Need-loop-again Inv-loop μ-loop
 loop-again c =
-    let l = c .before .before .before .before .loop in
-    let a = c .before .before .before .before .before .before .args in
-    let m = c .before .smaller .ensures in (
+    let l = c .before .before .before .before .loop in (
       search needs,
-      length-set (l .after) _ _ ∙ l .inv .1,
-      table-more (λ k. max (getD (a .largest) k 0) (min (a .counter) (getD (a .masks .now) (a .at + k) 0))) (l .after) (l .r) _
-          (omega arith) (l .inv .2) (c .larger .ensures ∙ ap₂ max (l .inv .3 (l .r) (omega arith)) m),
-      λ k h. getD-set-other (l .after) (l .r) k _ 0 (λ e. absurd (omega arith)) ∙ l .inv .3 k (omega arith),
+      written-more _ (omega arith) (l .inv .1) (c .larger .ensures ∙ ap₂ max (l .inv .2 (l .r) (omega arith)) (c .before .smaller .ensures)),
+      λ k h. getD-set-other (l .after) (l .r) k _ 0 (λ e. absurd (omega arith)) ∙ l .inv .2 k (omega arith),
     )
 
 returns : tie.Need-returns Inv-loop μ-loop
-returns c =
-    let l = c .before .loop in
-    let a = c .before .before .before .args in
-    table-is (λ k. max (getD (a .largest) k 0) (min (a .counter) (getD (a .masks .now) (a .at + k) 0))) (l .after) maxStates (l .inv .1)
-    (λ k h. l .inv .2 k (omega arith))
+returns c = written-all (omega arith) (c .before .loop .inv .1)
 
 pub raised-spec : {M : Type 1} → statement M
 raised-spec =

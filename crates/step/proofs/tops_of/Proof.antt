@@ -7,34 +7,35 @@ use Prim.Native.Nat.{ℕ, _+_, _-_, _≤_, _<_}
 use native.Mathlib.Omega.{arith}
 use borrow.Author.Count.{below-none, below-more}
 use borrow.Author.Needs.{needs}
-use lib.ListN.{length, getD, set, length-set, getD-replicate}
+use lib.ListN.{getD, set, getD-replicate}
 use lib.Seq.{getD-set-other}
 use Rattle.automaton.specs.Automata.{maxStates}
 use Rattle.automaton.specs.Sets.{member}
 use Rattle.step.specs.Steps.{topsOf}
-use Rattle.step.proofs.SteppedBytes.{table-is, table-more}
+use Rattle.step.proofs.SteppedBytes.{Written, written-more, written-all}
 use Rattle.step.proofs.tops_of.Statement.{statement}
 use Rattle.step.proofs.tops_of.Tie as tie
 
 record TopsBelow (s : List ℕ) (top : ℕ) (l : List ℕ) (r : ℕ) : Type 0 where
-  long : length l ≡ maxStates
-  done : (k : ℕ) → k < r → getD l k 0 ≡ cond (member s k) top 0
+  written : Written (λ k. cond (member s k) top 0) l r
   rest : (k : ℕ) → r ≤ k → k < maxStates → getD l k 0 ≡ 0
 
 module _ (s : List ℕ) (top : ℕ) (l : List ℕ) (r : ℕ) (W : TopsBelow s top l r) (h : r < maxStates) where
   raised-one : member s r ≡ true → TopsBelow s top (set l r top) (r + 1)
   raised-one e =
       record {
-        long = length-set l r top ∙ W .long;
-        done = table-more (λ k. cond (member s k) top 0) l r top (omega (arith, W .long)) (W .done) (sym (ap (λ (c : Bool). cond c top 0) e));
+        written = written-more top h (W .written) (sym (ap (λ (c : Bool). cond c top 0) e));
         rest = λ k i j. getD-set-other l r k top 0 (λ d. absurd (omega arith)) ∙ W .rest k (omega arith) j;
       }
 
   kept-one : member s r ≡ false → TopsBelow s top l (r + 1)
   kept-one e =
       record {
-        long = W .long;
-        done = below-more _ r (W .done) (W .rest r (omega arith) h ∙ sym (ap (λ (c : Bool). cond c top 0) e));
+        written =
+            record {
+              long = W .written .long;
+              done = below-more _ r (W .written .done) (W .rest r (omega arith) h ∙ sym (ap (λ (c : Bool). cond c top 0) e));
+            };
         rest = λ k i j. W .rest k (omega arith) j;
       }
 
@@ -45,7 +46,7 @@ abbrev μ-loop : tie.MeasureT-loop
 μ-loop accepting top tops₀ r₀ tops r = maxStates - r
 
 loop-holds : tie.Need-loop-holds Inv-loop μ-loop
-loop-holds c = (search needs, record { long = search needs; done = below-none _; rest = λ k h l. getD-replicate {A = ℕ} maxStates k 0 0 l })
+loop-holds c = (search needs, record { written = record { long = search needs; done = below-none _ }; rest = λ k h l. getD-replicate {A = ℕ} maxStates k 0 0 l })
 
 accepts-in-requires : tie.Need-accepts-in-requires Inv-loop μ-loop
 accepts-in-requires c κs = search needs
@@ -75,10 +76,7 @@ loop-again c =
 
 returns : tie.Need-returns Inv-loop μ-loop
 unfolding topsOf
-returns c =
-    let l = c .before .loop in
-    let a = c .before .before .args in
-    table-is (λ k. cond (member (a .accepting .now) k) (a .top) 0) (l .tops) maxStates (l .inv .1 .long) (λ k h. l .inv .1 .done k (omega arith))
+returns c = written-all (omega arith) (c .before .loop .inv .1 .written)
 
 pub tops-of-spec : {M : Type 1} → statement M
 tops-of-spec =

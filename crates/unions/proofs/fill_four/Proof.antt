@@ -1,6 +1,6 @@
 -- `unions::fill_four` meets its contract: the first entry is 0, and each value doubles the entries. Assumes nothing.
 use native.Mathlib.Omega.{arith}
-use lib.ListN.{set, length-set}
+use lib.ListN.{length-set}
 use Rattle.unions.proofs.UnionTables.{four-filled}
 use borrow.Author.Needs.{needs}
 use Rattle.unions.proofs.fill_four.Statement.{statement}

@@ -1,7 +1,9 @@
 -- `verdict::accepted` meets its contract: what the functions that it calls ensure are the facts from which the verdict in words is the
 -- verdict. Assumes nothing.
 use mathlib.Core.Path.{_∙_}
+use denote.Ref.{now}
 use native.Mathlib.Omega.{arith}
+use Rattle.automaton.specs.Automata.{wholeOf}
 use Rattle.relations.proofs.Rows.{closed-rows, diagonal-rows}
 use Rattle.verdict.proofs.WordSets.{rows-held}
 use Rattle.verdict.proofs.WordVerdict.{accepting-held, words-decide}
@@ -65,8 +67,8 @@ returns c =
     let bytes = word .before .before .before in
     let stem = bytes .before .before .before in
     let first = stem .before .before .before in
-    let entry = first .before .before .before .before .before .before .before in
-    let A = entry .args .a in
+    let entry = first .before .before .before .before .before in
+    let A = wholeOf (entry .args .head) (now (entry .args .transitions)) in
     let held = rows-held A (entry .pre) (first .letter-rows .last .1 .1 .0) (first .letter-rows .ensures .0) in
     let accepting = accepting-held A (entry .pre .few-states) (bytes .of-bytes .result) (bytes .of-bytes .ensures) in
     let runs = word .loop-rows .last .1 .1 .1 .1 .1 .0 in

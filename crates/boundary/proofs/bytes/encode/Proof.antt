@@ -1,8 +1,11 @@
 -- `boundary::bytes::encode` meets its contract: thirteen stores make the front, and the transitions are copied behind it. Assumes nothing.
-use mathlib.Core.Path.{ap, sym, _∙_}
+use mathlib.Core.Path.{_≡_, ap, sym, _∙_}
 use native.Mathlib.Omega.{arith}
+use denote.Ref.{now}
 use borrow.Author.Needs.{needs}
 use lib.ListN.{length, length-set, length-take, length-drop}
+use Rattle.history.specs.declared.Entry.{Entry}
+use Rattle.history.specs.Entries.{entryWith}
 use Rattle.boundary.specs.Bytes.{Sized}
 use Rattle.boundary.proofs.EntryBytes.{length-entry-bytes, entry-written}
 use Rattle.boundary.proofs.bytes.encode.Statement.{statement}
@@ -86,33 +89,40 @@ array-read-bytes-4 c = search needs
 slice-write-bytes-13 : tie.Need-slice-write-bytes-13
 slice-write-bytes-13 c = simp length-set (omega arith)
 
-sub-put-transitions : tie.Need-sub-put-transitions
-sub-put-transitions c = simp length-set (omega arith)
+sub-copy-transitions : tie.Need-sub-copy-transitions
+sub-copy-transitions c = simp length-set (omega arith)
 
-part-put-transitions-start : tie.Need-part-put-transitions-start
-part-put-transitions-start c = simp length-set (omega arith)
+part-copy-transitions-start : tie.Need-part-copy-transitions-start
+part-copy-transitions-start c = simp length-set (omega arith)
 
-part-put-transitions-end : tie.Need-part-put-transitions-end
-part-put-transitions-end c = search needs
+part-copy-transitions-end : tie.Need-part-copy-transitions-end
+part-copy-transitions-end c = search needs
 
-put-transitions-requires : tie.Need-put-transitions-requires
-put-transitions-requires c κs = simp (length-take, length-drop, length-set) (omega arith)
+copy-transitions-requires : tie.Need-copy-transitions-requires
+copy-transitions-requires c κs =
+    (simp (length-take, length-drop, length-set) (omega arith), c .copy-transitions-arg2 .given .0)
 
-sized : (c : tie.Start) → Sized (c .args .entry)
-sized c = record { accepting-long = search (needs, c .good); transitions-long = search (needs, c .good) }
+-- the entry that is written, and that its arrays have their lengths
+abbrev whole : tie.Start → Entry
+whole s = entryWith (s .args .entry) (now (s .args .held))
+
+sized : (s : tie.Start) → length (now (s .args .held)) ≡ 2048 → Sized (whole s)
+sized s l = record { accepting-long = search (needs, s .good); transitions-long = l }
 
 returns : tie.Need-returns
 returns c =
-    let start = c .before .before .before .before .before .before .before .before .before .before .before .before in
-    let f = c .before .before .before .before .before .before .before .before .filled-byte in
-    let p = c .before .before .put-transitions in
-    entry-written (start .args .entry) (start .args .bytes .now) (p .last .0) (f .result) (sized start) (start .pre .0) (f .ensures)
-    (p .ensures)
+    let p = c .before .before in
+    let l = p .before .copy-transitions-arg2 .given .0 in
+    let f = p .before .before .before .before .before .before .before in
+    let s = f .before .before .before in
+    entry-written (whole s) (now (s .args .bytes)) (p .copy-transitions .last .0) (f .filled-byte .result) (sized s l) (s .pre .0)
+    (f .filled-byte .ensures) (p .copy-transitions .ensures)
 
 same-length : tie.Need-same-length
 same-length c =
-    let start = c .before .before .before .before .before .before .before .before .before .before .before .before in
-    ap length (returns c) ∙ length-entry-bytes (start .args .entry) (sized start) ∙ sym (start .pre .0)
+    let p = c .before .before .before in
+    let s = p .before .before .before .before .before .before .before .before .before in
+    ap length (returns c) ∙ length-entry-bytes (whole s) (sized s (p .copy-transitions-arg2 .given .0)) ∙ sym (s .pre .0)
 
 pub encode-spec : {M : Type 1} → statement M
 encode-spec =
@@ -144,9 +154,9 @@ encode-spec =
     slice-write-bytes-12
     array-read-bytes-4
     slice-write-bytes-13
-    sub-put-transitions
-    part-put-transitions-start
-    part-put-transitions-end
-    put-transitions-requires
+    sub-copy-transitions
+    part-copy-transitions-start
+    part-copy-transitions-end
+    copy-transitions-requires
     same-length
     returns)

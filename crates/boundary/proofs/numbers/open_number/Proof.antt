@@ -3,6 +3,7 @@ use mathlib.Core.Path.{ap, sym}
 use native.Mathlib.Omega.{arith}
 use borrow.Author.Needs.{needs}
 use Rattle.boundary.specs.Numbers.{openNumber}
+use Rattle.boundary.proofs.NumberLaws.{case-fits}
 use Rattle.boundary.proofs.numbers.open_number.Statement.{statement}
 use Rattle.boundary.proofs.numbers.open_number.Tie as tie
 
@@ -13,7 +14,7 @@ enum-known-answer : tie.Need-enum-known-answer
 enum-known-answer c = search needs
 
 add-result : tie.Need-add-result
-add-result c = omega (arith, ap openNumber (c .before .answer .given .1), c .before .before .before .pre)
+add-result c = omega (arith, case-fits openNumber (c .before .answer .given .1) (c .before .before .before .pre))
 
 returns : tie.Need-returns
 returns c = search needs

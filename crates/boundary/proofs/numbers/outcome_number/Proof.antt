@@ -1,8 +1,8 @@
 -- `boundary::numbers::outcome_number` meets its contract, case by case. Assumes nothing.
-use mathlib.Core.Path.{ap, sym, _∙_}
 use native.Mathlib.Omega.{arith}
 use Rattle.boundary.specs.Numbers.{outcomeNumber}
 use borrow.Author.Needs.{needs}
+use Rattle.boundary.proofs.NumberLaws.{case-fits, case-number}
 use Rattle.boundary.proofs.numbers.outcome_number.Statement.{statement}
 use Rattle.boundary.proofs.numbers.outcome_number.Tie as tie
 
@@ -10,22 +10,22 @@ enum-known-outcome : tie.Need-enum-known-outcome
 enum-known-outcome c = search needs
 
 add-packed : tie.Need-add-packed
-add-packed c = omega (arith, ap outcomeNumber (c .before .outcome .given .1), c .before .before .before .pre)
+add-packed c = omega (arith, case-fits outcomeNumber (c .before .outcome .given .1) (c .before .before .before .pre))
 
 packed-requires : tie.Need-packed-requires
-packed-requires c κs = omega (arith, ap outcomeNumber (c .before .outcome .given .1), c .before .before .before .pre)
+packed-requires c κs = case-fits outcomeNumber (c .before .outcome .given .1) (c .before .before .before .pre)
 
 enum-known-outcome-2 : tie.Need-enum-known-outcome-2
 enum-known-outcome-2 c = search needs
 
 comparison-number-requires : tie.Need-comparison-number-requires
-comparison-number-requires c κs = omega (arith, ap outcomeNumber (c .before .outcome2 .given .1), c .before .before .before .pre)
+comparison-number-requires c κs = case-fits outcomeNumber (c .before .outcome2 .given .1) (c .before .before .before .pre)
 
 returns : tie.Need-returns
-returns c = c .packed .ensures ∙ sym (ap outcomeNumber (c .before .before .outcome .given .1))
+returns c = case-number outcomeNumber (c .before .before .outcome .given .1) (c .packed .ensures)
 
 returns-2 : tie.Need-returns-2
-returns-2 c = c .comparison-number .ensures ∙ sym (ap outcomeNumber (c .before .before .outcome2 .given .1))
+returns-2 c = case-number outcomeNumber (c .before .before .outcome2 .given .1) (c .comparison-number .ensures)
 
 pub outcome-number-spec : {M : Type 1} → statement M
 outcome-number-spec =

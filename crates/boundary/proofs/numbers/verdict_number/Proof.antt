@@ -3,6 +3,7 @@ use mathlib.Core.Path.{ap, sym}
 use native.Mathlib.Omega.{arith}
 use borrow.Author.Needs.{needs}
 use Rattle.boundary.specs.Numbers.{verdictNumber}
+use Rattle.boundary.proofs.NumberLaws.{case-fits}
 use Rattle.boundary.proofs.numbers.verdict_number.Statement.{statement}
 use Rattle.boundary.proofs.numbers.verdict_number.Tie as tie
 
@@ -16,7 +17,7 @@ enum-known-answer : tie.Need-enum-known-answer
 enum-known-answer c = search needs
 
 add-result : tie.Need-add-result
-add-result c = omega (arith, ap verdictNumber (c .before .answer .given .1), c .before .before .before .pre)
+add-result c = omega (arith, case-fits verdictNumber (c .before .answer .given .1) (c .before .before .before .pre))
 
 returns : tie.Need-returns
 returns c = search needs

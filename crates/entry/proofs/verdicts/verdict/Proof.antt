@@ -1,9 +1,11 @@
 -- `entry::verdicts::verdict` meets its contract, check by check; past condition 9 the held automaton of a filled entry is in range.
 -- Assumes nothing.
 use mathlib.Core.Path.{sym, _∙_}
+use denote.Ref.{now}
 use borrow.Author.Needs.{needs}
 use Rattle.history.proofs.CallDemands.{verdict-demand-1}
 use borrow.Author.Tests.{not-false}
+use Rattle.history.specs.Entries.{entryWith}
 use Rattle.history.specs.Verdicts.{verdictOf}
 use Rattle.history.proofs.EntryChecks.{passed-well-formed}
 use Rattle.entry.proofs.verdicts.verdict.Statement.{statement}
@@ -40,7 +42,8 @@ returns-3 c =
 accepted-requires : tie.Need-accepted-requires
 accepted-requires c κs =
     let b = c .before .before in
-    let E = b .before .before .before .before .before .before .args .entry in
+    let a = b .before .before .before .before .before .before .args in
+    let E = entryWith (a .entry) (now (a .held)) in
     passed-well-formed E (sym (b .before .before .before .malformed .ensures) ∙ b .before .before .if1 .left)
     (not-false (E .filled) (b .if2 .left)) .in-range
 

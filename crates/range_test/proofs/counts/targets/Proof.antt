@@ -1,14 +1,12 @@
 -- `targets` meets its contract. The invariant: what is counted and the targets from r on make up the sum. Assumes nothing.
-use mathlib.Core.Path.{_≡_, refl, ap, sym, _∙_}
+use mathlib.Core.Path.{_≡_, refl, ap, _∙_}
 use mathlib.Core.Bool.{Bool, true, false}
-use Prim.Native.Nat.{_+_, _≤_, _-_}
+use Prim.Native.Nat.{_≤_, _-_}
 use native.Mathlib.Omega.{arith}
-use denote.Ref.{now}
 use mir.Val.{boolByte}
-use Rattle.automaton.specs.Ranges.{total}
 use Rattle.automaton.specs.Automata.{one}
-use Rattle.automaton.specs.Members.{transitionIn, targetCount}
-use Rattle.automaton.proofs.Members.{total-start, total-past, total-end}
+use Rattle.automaton.specs.Members.{transitionIn}
+use Rattle.range_test.proofs.CountLoops.{Counted, count-none, count-more, count-all}
 use borrow.Author.Needs.{needs}
 use Rattle.range_test.proofs.counts.targets.Statement.{statement}
 use Rattle.range_test.proofs.counts.targets.Tie as tie
@@ -22,15 +20,13 @@ byte-le true = omega arith
 byte-le false = omega arith
 
 abbrev Inv-loop : tie.InvT-loop
-Inv-loop transitions states q a count₀ r₀ count r =
-    (r ≤ states) × (count ≤ r)
-    × (targetCount transitions states q a ≡ count + total (λ t. one (transitionIn transitions q a t)) (states - r) r)
+Inv-loop transitions states q a count₀ r₀ count r = Counted (λ t. one (transitionIn transitions q a t)) states 1 count r
 
 abbrev μ-loop : tie.MeasureT-loop
 μ-loop transitions states q a count₀ r₀ count r = states - r
 
 loop-holds : tie.Need-loop-holds Inv-loop μ-loop
-loop-holds c = (omega arith, omega arith, total-start _ (c .args .states))
+loop-holds c = count-none _ (c .args .states) 1
 
 transition-in-requires : tie.Need-transition-in-requires Inv-loop μ-loop
 transition-in-requires c κs = search needs
@@ -49,22 +45,11 @@ loop-less c = search needs
 
 loop-again : tie.Need-loop-again Inv-loop μ-loop
 loop-again c =
-    let s = c .before .before in
-    let v = s .before .args in (
-      omega arith,
-      omega (arith, byte-le (c .transition-in .result)),
-      s .loop .inv .2
-          ∙ total-past (λ t. one (transitionIn (now (v .transitions)) (v .q) (v .a) t)) (v .states)
-          (s .loop .r) (s .loop .count) _ (omega arith)
-          (byte-one (c .transition-in .result) ∙ ap one (c .transition-in .ensures)),
-    )
+    count-more (c .before .before .loop .inv) _ (omega arith) (byte-one (c .transition-in .result) ∙ ap one (c .transition-in .ensures))
+    (byte-le (c .transition-in .result))
 
 returns : tie.Need-returns Inv-loop μ-loop
-returns c =
-    let v = c .before .before .args in (
-      sym (c .before .loop .inv .2 ∙ total-end _ (v .states) (c .before .loop .r) (c .before .loop .count) (omega arith)),
-      omega arith,
-    )
+returns c = (count-all (c .before .loop .inv) (omega arith), omega arith)
 
 pub targets-spec : {M : Type 1} → statement M
 targets-spec =

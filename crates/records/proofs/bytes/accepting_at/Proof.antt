@@ -1,4 +1,4 @@
--- `accepting_at` meets its contract: the field is there exactly when three bytes are left. Assumes nothing.
+-- `accepting_at` meets its contract: the field is there exactly when three bytes remain. Assumes nothing.
 use Prim.Native.Nat.{_+_}
 use native.Mathlib.Omega.{arith}
 use denote.Ref.{now}

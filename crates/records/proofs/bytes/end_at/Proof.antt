@@ -1,4 +1,4 @@
--- `end_at` meets its contract: nothing follows exactly when two bytes are left. Assumes nothing.
+-- `end_at` meets its contract: nothing follows exactly when two bytes remain. Assumes nothing.
 use Prim.Native.Nat.{_+_}
 use native.Mathlib.Omega.{arith}
 use denote.Ref.{now}

@@ -7,8 +7,8 @@ use borrow.Author.Needs.{needs}
 use Rattle.records.proofs.bytes.record_at.Statement.{statement}
 use Rattle.records.proofs.bytes.record_at.Tie as tie
 
-left-from-requires : tie.Need-left-from-requires
-left-from-requires c κs = search needs
+remaining-from-requires : tie.Need-remaining-from-requires
+remaining-from-requires c κs = search needs
 
 returns : tie.Need-returns
 returns c =
@@ -66,7 +66,7 @@ pub record-at-spec : {M : Type 1} → statement M
 record-at-spec =
     tie.close
     (tie.spec
-    left-from-requires
+    remaining-from-requires
     returns
     shared-slice-read-if2
     returns-2

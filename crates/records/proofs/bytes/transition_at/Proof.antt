@@ -1,4 +1,4 @@
--- `transition_at` meets its contract: the fields are there exactly when five bytes are left. Assumes nothing.
+-- `transition_at` meets its contract: the fields are there exactly when five bytes remain. Assumes nothing.
 use Prim.Native.Nat.{_+_}
 use native.Mathlib.Omega.{arith}
 use denote.Ref.{now}

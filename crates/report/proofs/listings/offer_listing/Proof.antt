@@ -2,6 +2,7 @@
 -- back. Assumes nothing.
 use native.Mathlib.Omega.{arith}
 use denote.Ref.{now}
+use Rattle.history.specs.Entries.{entryWith}
 use Rattle.report.proofs.ListingCases.{lined-more, lined-as, listing-offered, part-le, part-room}
 use borrow.Author.Needs.{needs}
 use Rattle.report.proofs.listings.offer_listing.Statement.{statement}
@@ -22,11 +23,12 @@ slice-aggregate-offer-part c = search needs
 offer-part-requires : tie.Need-offer-part-requires
 offer-part-requires c κs =
     let o = c .before .before .before in
-    let a = o .before .before .before .before .before .args in
+    let a = o .before .before .before .before .before .before .args in
+    let E = entryWith (a .entry) (now (a .held)) in
     omega (
       arith,
-      part-le (a .entry) (now (a .offer)) (a .bound) _ (o .offer-entry .ensures .0),
-      o .offer-entry .kept .1 .1 .1 .1 .0,
+      part-le E (now (a .offer)) (a .bound) _ (o .offer-entry .ensures .0),
+      o .offer-entry .kept .1 .1 .1 .1 .1 .0,
     )
 
 offer-line-requires : tie.Need-offer-line-requires
@@ -40,13 +42,14 @@ returns c =
     let k = c .before .before .before in
     let p = k .before .before .before in
     let o = p .before .before .before .before in
-    let s = o .before .before .before .before .before in
+    let s = o .before .before .before .before .before .before in
     let a = s .args in
+    let E = entryWith (a .entry) (now (a .held)) in
     let x = o .offer-entry in
-    let is = listing-offered (a .entry) (now (a .offer)) (a .bound) _ _ _ _ (x .ensures .0) (x .ensures .1 .0) (x .ensures .1 .1 .1 .0)
+    let is = listing-offered E (now (a .offer)) (a .bound) _ _ _ _ (x .ensures .0) (x .ensures .1 .0) (x .ensures .1 .1 .1 .0)
     (p .offer-part .ensures .0) in
-    let room = part-room (a .entry) (now (a .offer)) (a .bound) _ _ _ (x .ensures .0) (x .kept .1 .1 .1 .1 .0) (p .offer-part .ensures .0) in
-    lined-as is (lined-more room (s .pre) (k .offer-line .ensures))
+    let room = part-room E (now (a .offer)) (a .bound) _ _ _ (x .ensures .0) (x .kept .1 .1 .1 .1 .1 .0) (p .offer-part .ensures .0) in
+    lined-as is (lined-more room (s .pre) (k .offer-line .ensures _))
 
 pub offer-listing-spec : {M : Type 1} → statement M
 offer-listing-spec =

@@ -31,12 +31,12 @@ same-length c = search needs
 returns : tie.Need-returns
 returns c =
     let k = c .before .before in
-    let t = k .before .before in
+    let t = k .before .before .before in
     let o = t .before .before .before in
-    let a = c .before .before .before .before .before .before .before .before .before .before .before .before in
+    let a = c .before .before .before .before .before .before .before .before .before .before .before .before .before .before in
     lined-as
-    (listing-opened (now (a .args .first)) (now (a .args .offer)) (a .args .bound) (o .before .fresh .result) (o .open-entry .result)
-    (o .before .fresh .ensures) (o .open-entry .ensures .0) (t .enum-told .given .1))
+    (listing-opened (now (a .args .first)) (now (a .args .offer)) (a .args .bound) _ _ _ (o .before .before .fresh .ensures) (o .open-entry .ensures .0)
+    (o .open-entry .ensures .1 .0) (t .enum-told .given .1))
     (k .offer-listing .ensures)
 
 same-length-2 : tie.Need-same-length-2
@@ -47,10 +47,10 @@ returns-2 c =
     let k = c .before .before in
     let t = k .before .before .before in
     let o = t .before .before .before in
-    let a = c .before .before .before .before .before .before .before .before .before .before .before .before .before in
+    let a = c .before .before .before .before .before .before .before .before .before .before .before .before .before .before in
     lined-as
-    (listing-refused (now (a .args .first)) (now (a .args .offer)) (a .args .bound) (o .before .fresh .result) (o .open-entry .result)
-    (o .before .fresh .ensures) (o .open-entry .ensures .0) (t .answer .given .1))
+    (listing-refused (now (a .args .first)) (now (a .args .offer)) (a .args .bound) _ _ _ (o .before .before .fresh .ensures) (o .open-entry .ensures .0)
+    (o .open-entry .ensures .1 .0) (t .answer .given .1))
     (lined-more (omega arith) (a .pre) (k .refused-line .ensures))
 
 pub open-listing-spec : {M : Type 1} → statement M

@@ -1,0 +1,2 @@
+-- Laws of the successors on a letter.
+pub mod LetterSteps

@@ -1,0 +1,3 @@
+-- The contracts of the step on a letter.
+pub mod Rules
+pub mod Targets
