@@ -14,8 +14,7 @@
 
    Stack. Within 64 KiB, and within 128 bytes more for each letter of the word that contain or entry_offer gives back, which may be
    EDITION_MAX_WORD letters: 576 KiB are enough for every call. A thread with less lends a shorter `word`: a word that does not fit
-   is refused with 11 before any of it is read back. On x86-64 tests/stack/run measures less than 62,000 bytes without a word and 64
-   for each letter: less than 324,000 for an offer that is turned down with a word of 4,096 letters. */
+   is refused with 11 before any of it is read back. What is measured stands in docs/reference.md, "The boundary for vendors". */
 #ifndef EDITION_H
 #define EDITION_H
 

@@ -11,14 +11,13 @@ use native.Mathlib.Omega.{arith}
 use borrow.Rule.Slice.PartMut.{midOf, putMid}
 use borrow.Author.Tests.{eq-eqb, ne-eqb}
 use lib.Dec.{T, eqb, eqb→eq}
-use lib.ListN.{length, getD, set, take, drop, length-append, length-take, length-drop, take-append-drop, drop-of-length-le}
+use lib.ListN.{length, getD, set, take, drop, length-append, length-drop, take-append-drop, drop-of-length-le}
 use lib.Seq.{take-all, take-at, drop-at, drop-drop, drop-cons, sets, sets-eq, length-sets, paste, paste-suc}
 use Rattle.automaton.specs.Automata.{one}
 use Rattle.automaton.proofs.Booleans.{or-cases, and-both, is-true}
 use Rattle.slots.proofs.SlotLayout.{part-back}
 use Rattle.history.specs.declared.Entry.{Entry}
-use Rattle.history.specs.Entries.{WellFormed}
-use Rattle.boundary.specs.Bytes.{entryLength, isEntry, numberOf, entryOf, headBytes, entryBytes, FitsBytes, Sized}
+use Rattle.boundary.specs.Bytes.{entryLength, isEntry, numberOf, entryOf, headBytes, entryBytes, Sized}
 
 -- the length decides first, then byte 0
 pub other-length-no-entry : (s : List ℕ) → (length s ≡ entryLength → ⊥) → isEntry s ≡ false
@@ -28,17 +27,6 @@ other-length-no-entry s h = rw (ne-eqb (length s) entryLength h)
 pub entry-by-first-byte : (s : List ℕ) → length s ≡ entryLength → isEntry s ≡ (eqb (getD s 0 0) 0 || eqb (getD s 0 0) 1)
 unfolding isEntry
 entry-by-first-byte s h = rw (eq-eqb (length s) entryLength h)
-
-pub well-formed-fits : (E : Entry) → WellFormed E → FitsBytes E
-well-formed-fits E w =
-    let r = w .in-range in
-    record {
-      states-fit = omega arith;
-      letters-fit = omega arith;
-      initial-fits = omega arith;
-      first-fits = omega arith;
-      edition-fits = omega arith;
-    }
 
 -- byte 0 and the edition's bytes, written and read again
 first-byte-known : (b : Bool) → (eqb (one b) 0 || eqb (one b) 1) ≡ true
@@ -77,14 +65,6 @@ module _ (E : Entry) (sized : Sized E) where
 
 -- the parts of a list of an entry's length
 module _ (s : List ℕ) (long : length s ≡ entryLength) where
-  pub sized-entry : Sized (entryOf s)
-  unfolding entryOf
-  sized-entry =
-      record {
-        accepting-long = simp (length-take, length-drop) (omega arith);
-        transitions-long = simp (length-take, length-drop) (omega arith);
-      }
-
   nine-in-front : getD s 0 0 ∷ getD s 1 0 ∷ getD s 2 0 ∷ getD s 3 0 ∷ getD s 4 0 ∷ getD s 5 0 ∷ getD s 6 0 ∷ getD s 7 0 ∷ getD s 8 0
       ∷ drop 9 s ≡ s
   nine-in-front =
@@ -203,23 +183,23 @@ four-elements l h =
     )
 
 -- the thirteen bytes in front, as they are stored one by one, the first of them k
-abbrev pub frontBytes : ℕ → Entry → List ℕ
-frontBytes k E =
+abbrev pub thirteenBytes : ℕ → Entry → List ℕ
+thirteenBytes k E =
     k ∷ E .held .states ∷ E .held .letters ∷ E .held .initial ∷ E .first
     ∷ E .edition % 2 ^ 8 ∷ E .edition / 2 ^ 8 % 2 ^ 8 ∷ E .edition / 2 ^ 16 % 2 ^ 8 ∷ E .edition / 2 ^ 24
     ∷ getD (E .held .accepting) 0 0 ∷ getD (E .held .accepting) 1 0 ∷ getD (E .held .accepting) 2 0 ∷ getD (E .held .accepting) 3 0 ∷ []
 
 -- after these stores and the copy of the transitions behind them
 pub entry-written : (E : Entry) (d ys : List ℕ) (k : ℕ) → Sized E → length d ≡ entryLength → k ≡ one (E .filled)
-    → (let l = sets d 0 (frontBytes k E) in ys ≡ E .held .transitions ++ drop 2048 (midOf 13 (length l - 13) l)
+    → (let l = sets d 0 (thirteenBytes k E) in ys ≡ E .held .transitions ++ drop 2048 (midOf 13 (length l - 13) l)
     → putMid 13 (length l - 13) l ys ≡ entryBytes E)
 unfolding entryBytes
 entry-written E d ys k sized long e w =
     let A : List ℕ = E .held .accepting in
     let t : List ℕ = E .held .transitions in
-    let l : List ℕ = sets d 0 (frontBytes k E) in
-    let n : length l ≡ entryLength = length-sets d 0 (frontBytes k E) ∙ long in
-    let front : take 13 l ≡ headBytes E ++ A = ap (take 13) (sets-eq (frontBytes k E) d 0 (omega arith))
+    let l : List ℕ = sets d 0 (thirteenBytes k E) in
+    let n : length l ≡ entryLength = length-sets d 0 (thirteenBytes k E) ∙ long in
+    let front : take 13 l ≡ headBytes E ++ A = ap (take 13) (sets-eq (thirteenBytes k E) d 0 (omega arith))
     ∙ rw (e, ← four-elements A (sized .accepting-long)) in
     part-back l 13 2048 t ys (omega arith) w
     ∙ ap₂ (λ (x y : List ℕ). x ++ (t ++ y)) front (drop-of-length-le l {i = 2061} (omega arith))

@@ -13,7 +13,7 @@
 --   entryBytes E    the bytes of the entry E
 --   FitsBytes E     each number of E fits its bytes
 --   Sized E         the arrays of E have the lengths of those of the code: 4 and 2,048 bytes
--- Shown by `entry-of-bytes` and `is-entry-bytes`. Assumes nothing.
+-- Shown by `entry-of-bytes`, `is-entry-bytes` and `bytes-of-entry`. Assumes nothing.
 use mathlib.Core.Path.{_≡_}
 use mathlib.Core.Bool.{Bool, _&&_, _||_}
 use mathlib.Core.List.{List, [], _∷_, _++_}

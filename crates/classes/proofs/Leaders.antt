@@ -169,14 +169,14 @@ module _ (work : List ℕ) where
           (eq-or-lt-of-le {n = s} {m = n} (omega arith))
 
 -- where a walk along the chain of k stands: the class is at or below c, and slot c - 1 leads and has the key k
-pub record Chain (work cs : List ℕ) (n k c : ℕ) : Type 0 where
+pub record OnChain (work cs : List ℕ) (n k c : ℕ) : Type 0 where
   pub key : k ≡ keyOf cs
   pub inside : c ≤ n
   pub rest : classOf work cs n ≤ c
   pub leader : 0 < c → (leads work (c - 1) ≡ true) × (keyOf (countersAt work (c - 1)) ≡ k)
 
 module _ (work cs : List ℕ) (k : ℕ) (key : k ≡ keyOf cs) where
-  chain-top : (n m : ℕ) → m ≤ n → classOf work cs n ≤ m → Chain work cs n k (topLeader work k m)
+  chain-top : (n m : ℕ) → m ≤ n → classOf work cs n ≤ m → OnChain work cs n k (topLeader work k m)
   chain-top n m l h =
       record {
         key = key;
@@ -192,21 +192,21 @@ module _ (work cs : List ℕ) (k : ℕ) (key : k ≡ keyOf cs) where
           top-above work k m s (omega arith) (d .2) (ap keyOf (d .1) ∙ sym key)
 
   -- the slot where the walk stands has the counters: it is their class
-  pub chain-here : (n c : ℕ) → Chain work cs n k c → 0 < c → sameList cs (countersAt work (c - 1)) ≡ true → c ≡ classOf work cs n
+  pub chain-here : (n c : ℕ) → OnChain work cs n k c → 0 < c → sameList cs (countersAt work (c - 1)) ≡ true → c ≡ classOf work cs n
   chain-here n c C l e =
       let i = C .inside in
       let d = class-last work cs n (c - 1) (omega arith) (sym (equal-lists cs (countersAt work (c - 1)) e)) (C .leader l .0) in
       omega arith
 
-  pub chain-end : (n c : ℕ) → Chain work cs n k c → c ≤ 0 → 0 ≡ classOf work cs n
+  pub chain-end : (n c : ℕ) → OnChain work cs n k c → c ≤ 0 → 0 ≡ classOf work cs n
   chain-end n c C l = let r = C .rest in omega arith
 
   module _ (heads nexts : List ℕ) (n : ℕ) (I : Chained work heads nexts n) where
-    pub chain-start : k < keys → Chain work cs n k (getD heads k 0)
+    pub chain-start : k < keys → OnChain work cs n k (getD heads k 0)
     chain-start l = rw (I .head-is k l) (chain-top n n (omega arith) (class-le work cs n))
 
-    pub chain-next : (c : ℕ) → Chain work cs n k c → 0 < c → sameList cs (countersAt work (c - 1)) ≡ false
-        → Chain work cs n k (getD nexts (c - 1) 0) × (getD nexts (c - 1) 0 < c)
+    pub chain-next : (c : ℕ) → OnChain work cs n k c → 0 < c → sameList cs (countersAt work (c - 1)) ≡ false
+        → OnChain work cs n k (getD nexts (c - 1) 0) × (getD nexts (c - 1) 0 < c)
     chain-next c C l e =
         let i = C .inside in
         let d = C .leader l in

@@ -85,21 +85,21 @@ module _ (cs : List ℕ) (b0 : (k : ℕ) → k < 8 → getD cs (0 + k) 0 < 256) 
   abbrev allWords : ℕ
   allWords = bitOr (bitOr (bitOr (eightFrom cs 0) (eightFrom cs 8)) (eightFrom cs 16)) (eightFrom cs 24)
 
-  abbrev None : Type 0
-  None = (eightFrom cs 0 ≡ 0) × (eightFrom cs 8 ≡ 0) × (eightFrom cs 16 ≡ 0) × (eightFrom cs 24 ≡ 0)
+  abbrev AllWordsZero : Type 0
+  AllWordsZero = (eightFrom cs 0 ≡ 0) × (eightFrom cs 8 ≡ 0) × (eightFrom cs 16 ≡ 0) × (eightFrom cs 24 ≡ 0)
 
   none-counted : allWords ≡ 0 → (k : ℕ) → k < 32 → getD cs k 0 ≡ 0
   none-counted e k l = first (ltb k 8) refl (or-four-none (eightFrom cs 0) (eightFrom cs 8) (eightFrom cs 16) (eightFrom cs 24) e)
     where
-      third : (c : Bool) → ltb k 24 ≡ c → 16 ≤ k → None → getD cs k 0 ≡ 0
+      third : (c : Bool) → ltb k 24 ≡ c → 16 ≤ k → AllWordsZero → getD cs k 0 ≡ 0
       third true q m z = none-within cs 16 b16 (z .2) k m (omega (arith, ltb-true k 24 q))
       third false q m z = none-within cs 24 b24 (z .3) k (ltb-false k 24 q) (omega arith)
 
-      second : (c : Bool) → ltb k 16 ≡ c → 8 ≤ k → None → getD cs k 0 ≡ 0
+      second : (c : Bool) → ltb k 16 ≡ c → 8 ≤ k → AllWordsZero → getD cs k 0 ≡ 0
       second true q m z = none-within cs 8 b8 (z .1) k m (omega (arith, ltb-true k 16 q))
       second false q m z = third (ltb k 24) refl (ltb-false k 16 q) z
 
-      first : (c : Bool) → ltb k 8 ≡ c → None → getD cs k 0 ≡ 0
+      first : (c : Bool) → ltb k 8 ≡ c → AllWordsZero → getD cs k 0 ≡ 0
       first true q z = none-within cs 0 b0 (z .0) k (omega arith) (omega (arith, ltb-true k 8 q))
       first false q z = second (ltb k 16) refl (ltb-false k 8 q) z
 

@@ -64,7 +64,7 @@ pub fn key_of(counters: &[u8; 32]) -> usize
     )
 }
 
-// Whether all counters are 0, by words.
+// Whether all counters are 0, by words. The promise goes through them one by one: of an array that is lent no length is known.
 pub fn all_zero(counters: &[u8; 32]) -> bool
     ensures { λ r. ⌜ r ≡ not (some (λ i. ltb 0 (getD (now (counters .entry)) i 0)) maxStates 0) ⌝ }
 {

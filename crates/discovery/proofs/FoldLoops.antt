@@ -20,13 +20,13 @@ use Rattle.discovery.specs.Representation.{Represents, Becomes}
 use Rattle.discovery.proofs.Walked.{the-type}
 
 -- an answer that ends the loops
-abbrev pub Stops : Walked → Type 0
-Stops (Going n) = ⊥
-Stops (Ended i a p) = Unit {0}
-Stops (Full n) = Unit {0}
+abbrev pub EndsWalk : Walked → Type 0
+EndsWalk (Going n) = ⊥
+EndsWalk (Ended i a p) = Unit {0}
+EndsWalk (Full n) = Unit {0}
 
 -- what a match that is not for `Going` knows
-pub other-stops : (r : Walked) → OneOf (1 ∷ 2 ∷ []) (tagOf the-type r) → Stops r
+pub other-stops : (r : Walked) → OneOf (1 ∷ 2 ∷ []) (tagOf the-type r) → EndsWalk r
 other-stops (Going n) (inl e) = absurd (omega arith)
 other-stops (Going n) (inr e) = absurd (omega arith)
 other-stops (Ended i a p) e = tt
@@ -46,9 +46,9 @@ represented-going work r x start (full ms) e S =
 
 module _ (A B : Automaton) (b p : ℕ) where
   -- a walk that an answer shows to have stopped stays as it is
-  stopped-discover-all : (work : List ℕ) (r : Walked) (start : List ℕ) (w : Walk Vertex) (es : List (ℕ × Vertex)) → Stops r → Represents work r start w
+  stopped-discover-all : (work : List ℕ) (r : Walked) (start : List ℕ) (w : Walk Vertex) (es : List (ℕ × Vertex)) → EndsWalk r → Represents work r start w
       → discoverAll (lagGraph A B b) (below (slotCount (length start))) p w es ≡ w
-  stopped-discover-all work r start (going ns) es t S = absurd (subst Stops (S .answer) t)
+  stopped-discover-all work r start (going ns) es t S = absurd (subst EndsWalk (S .answer) t)
   stopped-discover-all work r start (ended ns n) es t S = discover-all-ended (lagGraph A B b) (below (slotCount (length start))) p ns n es
   stopped-discover-all work r start (full ns) es t S = discover-all-full (lagGraph A B b) (below (slotCount (length start))) p ns es
 
@@ -77,7 +77,7 @@ module _ (A B : Automaton) (b p : ℕ) where
         let g = represented-going work′ r x start (discoverAll (lagGraph A B b) (below (slotCount (length start))) p (going (O .0)) fs) e after in
         (g .0, g .2, ap (λ (w : Walk Vertex). discoverAll (lagGraph A B b) (below (slotCount (length start))) p w es) (sym (g .1)) ∙ whole)
 
-    pub onward-stop : Stops r → Represents work′ r start W
+    pub onward-stop : EndsWalk r → Represents work′ r start W
     onward-stop t =
         let w = discoverAll (lagGraph A B b) (below (slotCount (length start))) p (going (O .0)) fs in
         subst (λ (x : Walk Vertex). Represents work′ r start x) (sym (stopped-discover-all work′ r start w es t after) ∙ whole) after

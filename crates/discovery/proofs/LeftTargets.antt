@@ -27,7 +27,7 @@ use Rattle.discovery.specs.declared.Walked.the-variants.{Going, Ended, F
 use Rattle.discovery.specs.declared.Sides.{Sides}
 use Rattle.discovery.specs.Representation.{vertexOf, Represents, Becomes, NoFewer, Takes, Grows, ClassKnown, sideOf, SideReady, TargetReady, SidesReady}
 use Rattle.discovery.proofs.RepresentedSlots.{listed-represented}
-use Rattle.discovery.proofs.FoldLoops.{Stops, FoldLoops, onward-next, onward-stop, onward-end}
+use Rattle.discovery.proofs.FoldLoops.{EndsWalk, FoldLoops, onward-next, onward-stop, onward-end}
 
 -- What the slots and the answer of two steps give together.
 
@@ -146,7 +146,7 @@ module _ (letter accepting : ℕ) (lowered others : List ℕ) (p : ℕ) (before 
           ≡ ((letter, vertexOf t (sideOf accepting lowered others t)) ∷ []) ++ edgesOf letter accepting lowered others rest′
       edges-first = ap (map (λ t. (letter, vertexOf t (sideOf accepting lowered others t)))) first
 
-      pub targets-stop : Stops r → TargetsDone work′ r
+      pub targets-stop : EndsWalk r → TargetsDone work′ r
       targets-stop k A B b start ns S =
           onward-stop A B b p work m work′ r start ((letter, vertexOf t (sideOf accepting lowered others t)) ∷ [])
           (edgesOf letter accepting lowered others rest′) (edgesOf letter accepting lowered others rest) _ (O A B b start ns S) edges-first
@@ -161,14 +161,14 @@ module _ (letter accepting : ℕ) (lowered others : List ℕ) (p : ℕ) (before 
 -- Targets that are listed may be left out.
 module _ (work : List ℕ) (n letter accepting : ℕ) (lowered others : List ℕ) (p targets rest : ℕ)
     (left : (t : ℕ) → t < maxStates → bit rest t ≡ (bit targets t && not (listedWith work (sideOf accepting lowered others t) n t))) where
-  abbrev edge : ℕ → ℕ × Vertex
-  edge t = (letter, vertexOf t (sideOf accepting lowered others t))
+  abbrev successorAt : ℕ → ℕ × Vertex
+  successorAt t = (letter, vertexOf t (sideOf accepting lowered others t))
 
   abbrev unlistedTarget : ℕ → Bool
   unlistedTarget t = bit targets t && not (listedWith work (sideOf accepting lowered others t) n t)
 
-  apart : (t u : ℕ) → u < t → sameVertex (edge t .1) (edge u .1) ≡ false
-  apart t u l = left-differs (edge t .1) (edge u .1) (λ e. absurd (omega arith))
+  apart : (t u : ℕ) → u < t → sameVertex (successorAt t .1) (successorAt u .1) ≡ false
+  apart t u l = left-differs (successorAt t .1) (successorAt u .1) (λ e. absurd (omega arith))
 
   same-rest : those (bit rest) maxStates 0 ≡ those unlistedTarget maxStates 0
   same-rest = those-same (bit rest) unlistedTarget maxStates 0 (λ t l h. left t (omega arith))
@@ -178,7 +178,7 @@ module _ (work : List ℕ) (n letter accepting : ℕ) (lowered others : List ℕ
       → Becomes work n work′ r (λ S w. discoverAll (lagGraph A B b) (below S) p w (edgesOf letter accepting lowered others targets))
   listed-left-out A B b work′ r made start ns S =
       subst (λ (w : Walk Vertex). Represents work′ r start w)
-      (ap (λ (ts : List ℕ). discoverAll (lagGraph A B b) (below (slotCount (length start))) p (going ns) (map edge ts)) same-rest
-      ∙ sym (discover-unlisted (lagGraph A B b) (below (slotCount (length start))) p edge apart (bit targets) unlistedTarget maxStates 0 ns
-      (λ t l. ap (λ (c : Bool). bit targets t && not c) (sym (listed-represented A B b work n start ns S (edge t .1))))))
+      (ap (λ (ts : List ℕ). discoverAll (lagGraph A B b) (below (slotCount (length start))) p (going ns) (map successorAt ts)) same-rest
+      ∙ sym (discover-unlisted (lagGraph A B b) (below (slotCount (length start))) p successorAt apart (bit targets) unlistedTarget maxStates 0 ns
+      (λ t l. ap (λ (c : Bool). bit targets t && not c) (sym (listed-represented A B b work n start ns S (successorAt t .1))))))
       (made start ns S)

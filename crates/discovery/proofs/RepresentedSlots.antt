@@ -1,5 +1,5 @@
--- The slots of a work buffer that shows a walk: each holds its node, so that the left states that are listed with counters tell whether a
--- vertex is listed, and a slot written behind them shows the list with one node more. Assumes nothing.
+-- The slots of a work buffer that represents a walk: each holds its node, so that the left states that are listed with counters tell whether a
+-- vertex is listed, and a slot written behind them represents the list with one node more. Assumes nothing.
 use mathlib.Core.Path.{_≡_, refl, sym, _∙_, ap, ap₂, subst}
 use mathlib.Core.Bool.{Bool, true, false, _||_}
 use mathlib.Core.Logic.{⊎-elim}

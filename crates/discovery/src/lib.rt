@@ -16,6 +16,7 @@ ghost use Rattle.classes.specs.Classes.{classOf, keyOf, keys, Chained};
 ghost use Rattle.graph.specs.Discovery.{below, discover as discovering, discoverAll};
 ghost use Rattle.graph.specs.LagGraph.{lagGraph};
 ghost use Rattle.discovery.specs.Representation.{vertexOf, Becomes, Ready, ReadyAfter, Takes, Grows, ClassKnown, sideOf, SideReady, TargetReady, SidesReady};
+use automaton::MAX_STATES;
 use slots::Vertex;
 
 // How the discovery list stands: no final vertex among the vertices listed, with their number; the place of the final vertex
@@ -47,7 +48,7 @@ fn least(table: &[u8; 256], set: u32) -> usize
         }
         b += 1;
     }
-    32
+    MAX_STATES
 }
 
 // The set without a state that it has.

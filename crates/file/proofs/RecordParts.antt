@@ -34,7 +34,7 @@ use Rattle.file.proofs.LeftAutomata.{leftAfter, left-file, left-over, l
 
 -- what a record came to, with B left of A
 pub taken : {x : Step} (p : Progress) {A B : Automaton} → x ≡ progressStep p B → automatonAfter (progressStep p B) A ≡ B → RecordTaken x p A B
-taken p {A} e l = record { step = e; left = sym (ap (λ y. automatonAfter y A) e ∙ l) }
+taken p {A} e l = record { step = e; after = sym (ap (λ y. automatonAfter y A) e ∙ l) }
 
 pub record-taken : (s : List ℕ) (i : ℕ) (A : Automaton) (x y : Record) {p : Progress} {B : Automaton} → x ≡ recordIn s i → x ≡ y
     → RecordTaken (takes y A) p A B → RecordTaken (recordAt s i A) p A B
@@ -111,7 +111,7 @@ module _ (s : List ℕ) (i : ℕ) (A B : Automaton) (p : Progress) (to : ReadTo 
   reading-over : (x : Read) → recordAt s i A ≡ over x → (readFile s ≡ x) × (automatonRead s ≡ B)
   reading-over x e = (
     to .answer ∙ ap (readAfter s) e ∙ read-over s x,
-    to .automaton ∙ ap (λ (y : Step). leftAfter s y A) e ∙ left-over s x A ∙ sym (t .left ∙ ap (λ (y : Step). automatonAfter y A) e),
+    to .automaton ∙ ap (λ (y : Step). leftAfter s y A) e ∙ left-over s x A ∙ sym (t .after ∙ ap (λ (y : Step). automatonAfter y A) e),
   )
 
   pub reading-refused : (n : ℕ) → p ≡ Refused n → (readFile s ≡ refused n) × (automatonRead s ≡ B)

@@ -57,7 +57,7 @@ automatonRead s = automatonPast (length s) s (header s) (bare 0 0 0)
 
 pub record RecordTaken (x : Step) (p : Progress) (A B : Automaton) : Type 0 where
   pub step : x ≡ progressStep p B
-  pub left : B ≡ automatonAfter x A
+  pub after : B ≡ automatonAfter x A
 
 abbrev pub refusalOf : Read → ℕ
 refusalOf (refused n) = n

@@ -6,6 +6,7 @@ ghost use lib.ListN.{length};
 ghost use Rattle.io.specs.Counts.{Counts};
 ghost use Rattle.automaton.specs.Automata.{wholeOf, InRange};
 use automaton::Head;
+use automaton::MAX_STATES;
 use bytes::scan::find;
 use libc::STDIN_FILENO;
 use libc::STDOUT_FILENO;
@@ -17,9 +18,9 @@ fn show_number(label: &[u8], n: usize) {
 }
 
 // Writes the numbers of the states whose flags are set.
-fn show_states(flags: [bool; 32]) {
+fn show_states(flags: [bool; MAX_STATES]) {
     let mut q: usize = 0;
-    while q < 32 {
+    while q < MAX_STATES {
         if flags[q] {
             show_number(b" ", q);
         }

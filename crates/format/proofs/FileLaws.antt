@@ -16,25 +16,25 @@ use Rattle.format.specs.Refusals.{Front, Fault, one, two, three, four, f
 use Rattle.format.proofs.RecordSteps.{Faulty, first, second, fourth, fifth, HeaderStep, no-header, starts, RecordStep, fault, ends, adds, header-step, record-step}
 
 -- an automaton in range, with its sets in full
-pub record Whole (A : Automaton) : Type 0 where
+pub record WholeSets (A : Automaton) : Type 0 where
   pub in-range : InRange A
   pub accepting-length : length (A .accepting) ≡ 4
   pub transitions-length : length (A .transitions) ≡ 2048
 
 abbrev SoundRead : Read → Type 0
 SoundRead (refused n) = (1 ≤ n) × (n ≤ 5)
-SoundRead (holds A) = Whole A
+SoundRead (holds A) = WholeSets A
 
 abbrev SoundStep : Step → Type 0
 SoundStep (over r) = SoundRead r
-SoundStep (next i A) = Whole A
+SoundStep (next i A) = WholeSets A
 
-pub bare-whole : (n k i : ℕ) → T (headerValues n k i) → Whole (bare n k i)
+pub bare-whole : (n k i : ℕ) → T (headerValues n k i) → WholeSets (bare n k i)
 bare-whole n k i v =
     let e = bare-lengths n k i in
     record { in-range = bare-in-range n k i v; accepting-length = e .0; transitions-length = e .1 }
 
-with-accepting-whole : (A : Automaton) (q : ℕ) → q < A .states → Whole A → Whole (withAccepting A q)
+with-accepting-whole : (A : Automaton) (q : ℕ) → q < A .states → WholeSets A → WholeSets (withAccepting A q)
 with-accepting-whole A q h w =
     let e = with-accepting-lengths A q in
     record {
@@ -44,7 +44,7 @@ with-accepting-whole A q h w =
     }
 
 with-transition-whole : (A : Automaton) (q a r : ℕ) → q < A .states → a < A .letters → r < A .states
-    → Whole A → Whole (withTransition A q a r)
+    → WholeSets A → WholeSets (withTransition A q a r)
 with-transition-whole A q a r hq ha hr w =
     let e = with-transition-lengths A q a r in
     record {
@@ -53,7 +53,7 @@ with-transition-whole A q a r hq ha hr w =
       transitions-length = e .1 ∙ w .transitions-length;
     }
 
-pub with-item-whole : (A : Automaton) (x : Item) → Within (A .states) (A .letters) x → Whole A → Whole (withItem A x)
+pub with-item-whole : (A : Automaton) (x : Item) → Within (A .states) (A .letters) x → WholeSets A → WholeSets (withItem A x)
 with-item-whole A (accepting-item q) h w = with-accepting-whole A q h w
 with-item-whole A (transition-item q a r) h w = with-transition-whole A q a r (h .0) (h .1) (h .2) w
 
@@ -74,7 +74,7 @@ header-sound : {s : List ℕ} {x : Step} → HeaderStep s x → SoundStep x
 header-sound (no-header f) = fault-number f
 header-sound (starts n k i t e v) = bare-whole n k i v
 
-record-sound : {s : List ℕ} {i : ℕ} {A : Automaton} {x : Step} → Whole A → RecordStep s i A x → SoundStep x
+record-sound : {s : List ℕ} {i : ℕ} {A : Automaton} {x : Step} → WholeSets A → RecordStep s i A x → SoundStep x
 record-sound w (fault f) = faulty-number f
 record-sound w (ends e) = w
 record-sound {A = A} w (adds x t e h n) = with-item-whole A x h w
@@ -90,7 +90,7 @@ read-sound : (s : List ℕ) → SoundRead (readFile s)
 unfolding readFile
 read-sound s = records-sound (length s) s (header s) (header-sound (header-step s))
 
-pub file-whole : (s : List ℕ) (A : Automaton) → readFile s ≡ holds A → Whole A
+pub file-whole : (s : List ℕ) (A : Automaton) → readFile s ≡ holds A → WholeSets A
 file-whole s A e = subst SoundRead e (read-sound s)
 
 pub file-in-range : (s : List ℕ) (A : Automaton) → readFile s ≡ holds A → InRange A

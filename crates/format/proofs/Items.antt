@@ -11,10 +11,10 @@ use Rattle.automaton.proofs.Bits.{with-accepting-header, with-accepting-iff, wi
 use Rattle.format.specs.Writing.{Item, accepting-item, transition-item}
 use Rattle.format.specs.Spelling.{Within, Distinct, withItem, withItems}
 use Rattle.format.proofs.RecordSteps.{Has}
-use Rattle.format.proofs.FileLaws.{Whole, with-item-whole}
+use Rattle.format.proofs.FileLaws.{WholeSets, with-item-whole}
 
 -- the automaton then has what it had and what the record says
-with-item-has-iff : (A : Automaton) (x y : Item) → Whole A → Within (A .states) (A .letters) x → Has (withItem A x) y ↔ ((y ≡ x) ⊎ Has A y)
+with-item-has-iff : (A : Automaton) (x y : Item) → WholeSets A → Within (A .states) (A .letters) x → Has (withItem A x) y ↔ ((y ≡ x) ⊎ Has A y)
 with-item-has-iff A (accepting-item q) (accepting-item p) w h =
     let e = with-accepting-iff A q h (w .in-range .few-states) (w .accepting-length) p in (
       λ t. ⊎-elim (λ d. inl (ap accepting-item d)) inr (e .0 t),
@@ -55,7 +55,7 @@ within-rest : (A : Automaton) (x : Item) (xs : List Item) → ((y : Item) → Li
     → (y : Item) → List·Memᴰ y xs → Within (withItem A x .states) (withItem A x .letters) y
 within-rest A x xs h y m = let e = with-item-header A x in within-same y (sym (e .0)) (sym (e .1)) (h y m)
 
-pub fit-of : (A : Automaton) (xs : List Item) → Whole A → ((x : Item) → List·Memᴰ x xs → Within (A .states) (A .letters) x) → Distinct xs
+pub fit-of : (A : Automaton) (xs : List Item) → WholeSets A → ((x : Item) → List·Memᴰ x xs → Within (A .states) (A .letters) x) → Distinct xs
     → ((x : Item) → List·Memᴰ x xs → Has A x → ⊥) → Fit A xs
 unfolding Fit Distinct
 fit-of A [] w h d f = tt
@@ -76,7 +76,7 @@ fit-within A (x ∷ xs) f y m =
     (λ l. let e = with-item-header A x in within-same y (e .0) (e .1) (fit-within (withItem A x) xs (f .2) y l))
     (List·Memᴰ·cases-cons m)
 
-pub fit-fresh : (A : Automaton) (xs : List Item) → Whole A → Fit A xs → (y : Item) → List·Memᴰ y xs → Has A y → ⊥
+pub fit-fresh : (A : Automaton) (xs : List Item) → WholeSets A → Fit A xs → (y : Item) → List·Memᴰ y xs → Has A y → ⊥
 unfolding Fit
 fit-fresh A [] w f y m t = List·Memᴰ·not-nil m
 fit-fresh A (x ∷ xs) w f y m t =
@@ -84,7 +84,7 @@ fit-fresh A (x ∷ xs) w f y m t =
     (λ l. fit-fresh (withItem A x) xs (with-item-whole A x (f .0) w) (f .2) y l (with-item-has-iff A x y w (f .0) .1 (inr t)))
     (List·Memᴰ·cases-cons m)
 
-pub fit-distinct : (A : Automaton) (xs : List Item) → Whole A → Fit A xs → Distinct xs
+pub fit-distinct : (A : Automaton) (xs : List Item) → WholeSets A → Fit A xs → Distinct xs
 unfolding Fit Distinct
 fit-distinct A [] w f = tt
 fit-distinct A (x ∷ xs) w f =
@@ -92,7 +92,7 @@ fit-distinct A (x ∷ xs) w f =
     let there = with-item-has-iff A x x w (f .0) .1 (inl refl) in
     (λ m. fit-fresh (withItem A x) xs v (f .2) x m there, fit-distinct (withItem A x) xs v (f .2))
 
-pub with-items-has-iff : (A : Automaton) (xs : List Item) → Whole A → Fit A xs
+pub with-items-has-iff : (A : Automaton) (xs : List Item) → WholeSets A → Fit A xs
     → (y : Item) → Has (withItems A xs) y ↔ (Has A y ⊎ List·Memᴰ y xs)
 unfolding Fit withItems
 with-items-has-iff A [] w f y = (inl, λ t. ⊎-elim (λ u. u) (λ m. absurd (List·Memᴰ·not-nil m)) t)

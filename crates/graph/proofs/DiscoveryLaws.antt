@@ -15,8 +15,8 @@ use Rattle.graph.proofs.Parents.{Linked, Plain, During, linked-raise, p
 use Rattle.graph.specs.Discovery.{withFinal}
 
 -- a place of a vertex
-abbrev pub Has : (G : Graph) → List (Node (G .Vertices)) → G .Vertices → Type 0
-Has G ns x = (j : ℕ) × (j < length ns) × (at G ns j .vertex ≡ x)
+abbrev pub HasVertex : (G : Graph) → List (Node (G .Vertices)) → G .Vertices → Type 0
+HasVertex G ns x = (j : ℕ) × (j < length ns) × (at G ns j .vertex ≡ x)
 
 -- the vertex is listed, first seen from place i or before
 pub record Seen (G : Graph) (ns : List (Node (G .Vertices))) (i : ℕ) (x : G .Vertices) : Type 0 where
@@ -31,7 +31,7 @@ Closed G p ns =
     → (e : ℕ × G .Vertices) → List·Memᴰ e (G .successors (at G ns i .vertex)) → Seen G ns i (e .1)
 
 -- how a list that goes on stands before place p is expanded
-pub record Open (G : Graph) (p : ℕ) (ns : List (Node (G .Vertices))) : Type 0 where
+pub record GoesOn (G : Graph) (p : ℕ) (ns : List (Node (G .Vertices))) : Type 0 where
   pub plain : Plain G p ns
   pub closed : Closed G p ns
   pub some : 0 < length ns
@@ -45,13 +45,13 @@ pub record Ended (G : Graph) (ns : List (Node (G .Vertices))) (n : Node (G .Vert
 
 -- how a walk stands before place p is expanded
 abbrev pub Before : (G : Graph) → ℕ → Walk (G .Vertices) → Type 0
-Before G p (going ns) = Open G p ns
+Before G p (going ns) = GoesOn G p ns
 Before G p (ended ns n) = Ended G ns n
 Before G p (full ns) = Plain G p ns
 
 -- a walk that goes on has a place for x
 abbrev HasIf : (G : Graph) → G .Vertices → Walk (G .Vertices) → Type 0
-HasIf G x (going ns) = Has G ns x
+HasIf G x (going ns) = HasVertex G ns x
 HasIf G x (ended ns n) = Unit {0}
 HasIf G x (full ns) = Unit {0}
 
@@ -60,11 +60,11 @@ or-true true b e = inl refl
 or-true false b e = inr e
 
 module _ (G : Graph) (free : ℕ → Bool) (p : ℕ) where
-  has-extends : (ns ms : List (Node (G .Vertices))) (x : G .Vertices) → Extends G ns ms → Has G ns x → Has G ms x
+  has-extends : (ns ms : List (Node (G .Vertices))) (x : G .Vertices) → Extends G ns ms → HasVertex G ns x → HasVertex G ms x
   has-extends ns ms x a h = (h .0, omega (arith, a .longer, h .1), rw (a .same (h .0) (h .1)) (h .2))
 
   discover-case-keeps : (x : G .Vertices) (ns : List (Node (G .Vertices))) (e : ℕ × G .Vertices) (w : Walk (G .Vertices))
-      → DiscoverCase G free p ns e w → Has G ns x → HasIf G x w
+      → DiscoverCase G free p ns e w → HasVertex G ns x → HasIf G x w
   discover-case-keeps x ns e w (known a) h = h
   discover-case-keeps x ns e w (ends a b) h = tt
   discover-case-keeps x ns e w (appended a b c) h = has-extends ns (ns ++ node e p ∷ []) x (extends-snoc G ns (node e p)) h
@@ -81,11 +81,11 @@ module _ (G : Graph) (free : ℕ → Bool) (p : ℕ) where
   discover-all-keep x (e ∷ es) w h = discover-all-keep x es (discover G free p w e) (discover-keeps x w e h)
 
 module _ (G : Graph) (sound : (u v : G .Vertices) → G .same u v ≡ true → u ≡ v) where
-  pub listed-has : (v : G .Vertices) (ns : List (Node (G .Vertices))) → listed G v ns ≡ true → Has G ns v
+  pub listed-has : (v : G .Vertices) (ns : List (Node (G .Vertices))) → listed G v ns ≡ true → HasVertex G ns v
   listed-has v [] e = absurd (let z : _≡_ {A = ℕ} 0 1 = cc in omega arith)
   listed-has v (n ∷ ns) e = go (listed-has v ns) (or-true (G .same v (n .vertex)) (listed G v ns) e)
     where
-      go : (listed G v ns ≡ true → Has G ns v) → (G .same v (n .vertex) ≡ true) ⊎ (listed G v ns ≡ true) → Has G (n ∷ ns) v
+      go : (listed G v ns ≡ true → HasVertex G ns v) → (G .same v (n .vertex) ≡ true) ⊎ (listed G v ns ≡ true) → HasVertex G (n ∷ ns) v
       go later (inl q) = (0, omega arith, sym (sound v (n .vertex) q))
       go later (inr q) = (suc (later q .0), omega (arith, later q .1), later q .2)
 
@@ -120,7 +120,7 @@ module _ (G : Graph) (sound : (u v : G .Vertices) → G .same u v ≡ true → u
     discover-all-have p e es w (List·Memᴰ·tail {x = d} {xs = ds} m) = discover-all-have p e ds (discover G free p w d) m
 
     -- a listed place is expanded, by what its successors came to
-    expanded : (p : ℕ) (ns : List (Node (G .Vertices))) → p < length ns → Open G p ns → (w : Walk (G .Vertices))
+    expanded : (p : ℕ) (ns : List (Node (G .Vertices))) → p < length ns → GoesOn G p ns → (w : Walk (G .Vertices))
         → Extends G ns (nodesOf w) → During G p w
         → ((e : ℕ × G .Vertices) → List·Memᴰ e (G .successors (at G ns p .vertex)) → HasIf G (e .1) w) → Before G (suc p) w
     expanded p ns hp O (going ms) a F has =
@@ -209,8 +209,8 @@ module _ (G : Graph) (sound : (u v : G .Vertices) → G .same u v ≡ true → u
     pub walked-before : (k : ℕ) → Before G k (expandAll G free k 0 (begin G free))
     walked-before k = rw (add-zero k) at (expand-all-before k 0 (begin G free) begin-before)
 
-  reach-has : (k : ℕ) (ns : List (Node (G .Vertices))) → length ns ≤ k → Open G k ns → (u x : G .Vertices) (w : List ℕ)
-      → Path G u w x → Has G ns u → Has G ns x
+  reach-has : (k : ℕ) (ns : List (Node (G .Vertices))) → length ns ≤ k → GoesOn G k ns → (u x : G .Vertices) (w : List ℕ)
+      → Path G u w x → HasVertex G ns u → HasVertex G ns x
   reach-has k ns l O u x w stay h = h
   reach-has k ns l O u x w (along {v = v} {a = a} {w = t} m r) h =
       let d = O .closed (h .0) (omega (arith, h .1)) (h .1) (a, v) (rw (h .2) m) in
@@ -218,19 +218,19 @@ module _ (G : Graph) (sound : (u v : G .Vertices) → G .same u v ≡ true → u
 
   -- every vertex that can be reached is listed, and is not final
   pub going-lists-all : (ns : List (Node (G .Vertices))) → DiscoveryList G (going ns) → (x : G .Vertices) (w : List ℕ)
-      → Path G (G .initial) w x → Has G ns x × (G .final x ≡ false)
+      → Path G (G .initial) w x → HasVertex G ns x × (G .final x ≡ false)
   going-lists-all ns (all k e l) x w r = (h, rw (h .2) at (O .plain .not-final (h .0) (h .1)))
     where
-      O : Open G k ns
+      O : GoesOn G k ns
       O = rw e at (walked-before always k)
 
-      h : Has G ns x
+      h : HasVertex G ns x
       h =
           reach-has k ns l O (G .initial) x w r
           (0, O .some, ap (λ (n : Node (G .Vertices)). n .vertex) (O .plain .linked .first (O .some)))
 
   -- how the whole list stands
-  pub going-open : (ns : List (Node (G .Vertices))) → DiscoveryList G (going ns) → (k : ℕ) × Open G k ns
+  pub going-open : (ns : List (Node (G .Vertices))) → DiscoveryList G (going ns) → (k : ℕ) × GoesOn G k ns
   going-open ns (all k e l) = (k, rw e at (walked-before always k))
 
   pub ended-list : (ns : List (Node (G .Vertices))) (n : Node (G .Vertices)) → DiscoveryList G (ended ns n) → Ended G ns n

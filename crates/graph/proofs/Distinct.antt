@@ -10,8 +10,8 @@ use Rattle.slots.specs.Slots.{noLetter, noParent}
 use Rattle.graph.specs.Discovery.{Graph, Node, Walk, going, ended, full, nodesOf, node, listed, discover, discoverAll, successorsAt, expand, expandAll, begin, at}
 use Rattle.graph.proofs.Discoveries.{DiscoverCase, known, ends, appended, no-slot, discover-case, at-left, at-last, before-or-last}
 
-abbrev pub Distinct : (G : Graph) → List (Node (G .Vertices)) → Type 0
-Distinct G ns = (i j : ℕ) → i < j → j < length ns → at G ns i .vertex ≡ at G ns j .vertex → ⊥
+abbrev pub DistinctVertices : (G : Graph) → List (Node (G .Vertices)) → Type 0
+DistinctVertices G ns = (i j : ℕ) → i < j → j < length ns → at G ns i .vertex ≡ at G ns j .vertex → ⊥
 
 or-false : (a b : Bool) → (a || b) ≡ false → (a ≡ false) × (b ≡ false)
 or-false true b e = absurd (let z : _≡_ {A = ℕ} 0 1 = cc in omega arith)
@@ -28,7 +28,7 @@ module _ (G : Graph) (same-refl : (v : G .Vertices) → G .same v v ≡ true) wh
   unlisted v (n ∷ ns) e (suc i) h q = unlisted v ns (or-false (G .same v (n .vertex)) (listed G v ns) e .1) i (omega arith) q
 
   distinct-snoc : (ns : List (Node (G .Vertices))) (n : Node (G .Vertices)) → listed G (n .vertex) ns ≡ false
-      → Distinct G ns → Distinct G (ns ++ n ∷ [])
+      → DistinctVertices G ns → DistinctVertices G (ns ++ n ∷ [])
   distinct-snoc ns n e D i j l h q = go (before-or-last G ns n j h)
     where
       vertex-at : (k : ℕ) → k < length ns → at G (ns ++ n ∷ []) k .vertex ≡ at G ns k .vertex
@@ -42,30 +42,30 @@ module _ (G : Graph) (same-refl : (v : G .Vertices) → G .same v v ≡ true) wh
 
   module _ (free : ℕ → Bool) where
     distinct-discover-case : (p : ℕ) (ns : List (Node (G .Vertices))) (e : ℕ × G .Vertices) (w : Walk (G .Vertices))
-        → DiscoverCase G free p ns e w → Distinct G ns → Distinct G (nodesOf w)
+        → DiscoverCase G free p ns e w → DistinctVertices G ns → DistinctVertices G (nodesOf w)
     distinct-discover-case p ns e w (known x) D = D
     distinct-discover-case p ns e w (ends x y) D = D
     distinct-discover-case p ns e w (appended x y z) D = distinct-snoc ns (node e p) x D
     distinct-discover-case p ns e w (no-slot x y z) D = D
 
-    pub discover-distinct : (p : ℕ) (w : Walk (G .Vertices)) (e : ℕ × G .Vertices) → Distinct G (nodesOf w)
-        → Distinct G (nodesOf (discover G free p w e))
+    pub discover-distinct : (p : ℕ) (w : Walk (G .Vertices)) (e : ℕ × G .Vertices) → DistinctVertices G (nodesOf w)
+        → DistinctVertices G (nodesOf (discover G free p w e))
     discover-distinct p (going ns) e D = distinct-discover-case p ns e (discover G free p (going ns) e) (discover-case G free p ns e) D
     discover-distinct p (ended ns n) e D = D
     discover-distinct p (full ns) e D = D
 
-    pub discover-all-distinct : (p : ℕ) (es : List (ℕ × G .Vertices)) (w : Walk (G .Vertices)) → Distinct G (nodesOf w)
-        → Distinct G (nodesOf (discoverAll G free p w es))
+    pub discover-all-distinct : (p : ℕ) (es : List (ℕ × G .Vertices)) (w : Walk (G .Vertices)) → DistinctVertices G (nodesOf w)
+        → DistinctVertices G (nodesOf (discoverAll G free p w es))
     discover-all-distinct p [] w D = D
     discover-all-distinct p (e ∷ es) w D = discover-all-distinct p es (discover G free p w e) (discover-distinct p w e D)
 
-    expand-all-distinct : (k p : ℕ) (w : Walk (G .Vertices)) → Distinct G (nodesOf w) → Distinct G (nodesOf (expandAll G free k p w))
+    expand-all-distinct : (k p : ℕ) (w : Walk (G .Vertices)) → DistinctVertices G (nodesOf w) → DistinctVertices G (nodesOf (expandAll G free k p w))
     expand-all-distinct zero p w D = D
     expand-all-distinct (suc k) p w D =
         expand-all-distinct k (suc p) (expand G free p w) (discover-all-distinct p (successorsAt G (nodesOf w) p) w D)
 
     -- after the first k places are expanded, with whatever slots are free
-    pub walked-distinct : (k : ℕ) → Distinct G (nodesOf (expandAll G free k 0 (begin G free)))
+    pub walked-distinct : (k : ℕ) → DistinctVertices G (nodesOf (expandAll G free k 0 (begin G free)))
     walked-distinct k =
         expand-all-distinct k 0 (begin G free)
         (discover-distinct noParent (going []) (noLetter, G .initial) (λ i j l h q. absurd (omega arith)))

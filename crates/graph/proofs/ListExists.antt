@@ -20,7 +20,7 @@ use Rattle.graph.specs.Discovery.{Path, Graph, Node, Walk, going, ended,
 use Rattle.graph.specs.LagGraph.{initialVertex, lagGraph}
 use Rattle.graph.specs.Walks.{wordOf, Fits}
 use Rattle.graph.proofs.Capacity.{walk-going-iff, walk-ended-iff, walk-full-more}
-use Rattle.graph.proofs.Distinct.{Distinct, walked-distinct}
+use Rattle.graph.proofs.Distinct.{DistinctVertices, walked-distinct}
 use Rattle.graph.proofs.DiscoveryLaws.{Before, walked-before, going-lists-all, ended-list}
 use Rattle.graph.proofs.VertexRanges.{VertexInRange, listed-in-range}
 use Rattle.graph.proofs.Words.{final-word-path}
@@ -99,8 +99,8 @@ module _ (A B : Automaton) (b : ℕ) where
     not-full : (ns : List (Node Vertex)) → walk G (suc codes) ≡ full ns → ⊥
     not-full ns e =
         let l = walk-full-more G (suc codes) ns e .0 in
-        let D : Distinct G ns =
-        subst (λ (x : Walk Vertex). Distinct G (nodesOf x)) e (walked-distinct G same-refl (below (suc codes)) (suc codes)) in
+        let D : DistinctVertices G ns =
+        subst (λ (x : Walk Vertex). DistinctVertices G (nodesOf x)) e (walked-distinct G same-refl (below (suc codes)) (suc codes)) in
         let P = subst (Before G (suc codes)) e (walked-before G same-sound (below (suc codes)) (suc codes)) in
         let R : (i : ℕ) → i < length ns → VertexInRange A b (at G ns i .vertex) =
         listed-in-range A B b inside (suc codes) ns (P .linked) in
@@ -110,7 +110,7 @@ module _ (A B : Automaton) (b : ℕ) where
         (t .4))
 
     -- there is a discovery list; `list-unique` says that there is only one
-    pub list-exists : (w : Walk Vertex) × DiscoveryList G w
+    pub list-exists : (w : Walk Vertex) × DiscoveryList (lagGraph A B b) w
     list-exists = go (walk G (suc codes)) refl
       where
         go : (x : Walk Vertex) → walk G (suc codes) ≡ x → (w : Walk Vertex) × DiscoveryList G w
@@ -120,7 +120,7 @@ module _ (A B : Automaton) (b : ℕ) where
 
     -- the paper's Theorem 4, of run prefixes: no final vertex can be reached from the initial vertex
     pub contained-no-final : B .states ≤ maxStates → B .initial < B .states
-        → Contained A B b ↔ ((x : Vertex) (w : List ℕ) → Path G (initialVertex A B b) w x → allZero (x .counters) ≡ false)
+        → Contained A B b ↔ ((x : Vertex) (w : List ℕ) → Path (lagGraph A B b) (initialVertex A B b) w x → allZero (x .counters) ≡ false)
     unfolding Contained
     contained-no-final small inB = go (list-exists .1)
       where

@@ -80,39 +80,39 @@ module _ (E : Entry) (f : List ℕ) (b : ℕ) (work word : List ℕ) where
       let a = first-at offerPlace (offerRows E f b work word) offer-placed x in
       (λ e. a .0 (t .0 e), λ p. t .1 (a .1 p))
 
-  abbrev Listed : OfferAnswer → Type 0
-  Listed = OfferListed (slotCount (length work)) (length word)
+  abbrev ListedHere : OfferAnswer → Type 0
+  ListedHere = OfferListed (slotCount (length work)) (length word)
 
-  offer-listed : Every Listed (offerRows E f b work word)
+  offer-listed : Every ListedHere (offerRows E f b work word)
   offer-listed =
-      also (λ x p. subst Listed (sym (p .1)) malformed-entry)
-      (also (λ x p. subst Listed (sym (p .1)) empty-entry)
-      (also (λ x p. let h = file-refusals f (p .0) (refused-read (p .1)) in subst Listed (sym (p .2)) (bad-file (h .0) (h .1)))
-      (also (λ x p. subst Listed (sym (p .1)) bad-bound)
-      (also (λ x p. subst Listed (sym (p .1)) other-letters)
-      (also (λ x p. subst Listed (sym (p .1)) dead-state)
-      (also (λ x p. subst Listed (sym (p .1)) not-smaller)
-      (also (λ x p. subst Listed (sym (p .1)) (forward-walk, refl))
+      also (λ x p. subst ListedHere (sym (p .1)) malformed-entry)
+      (also (λ x p. subst ListedHere (sym (p .1)) empty-entry)
+      (also (λ x p. let h = file-refusals f (p .0) (refused-read (p .1)) in subst ListedHere (sym (p .2)) (bad-file (h .0) (h .1)))
+      (also (λ x p. subst ListedHere (sym (p .1)) bad-bound)
+      (also (λ x p. subst ListedHere (sym (p .1)) other-letters)
+      (also (λ x p. subst ListedHere (sym (p .1)) dead-state)
+      (also (λ x p. subst ListedHere (sym (p .1)) not-smaller)
+      (also (λ x p. subst ListedHere (sym (p .1)) (forward-walk, refl))
       (also (λ x p.
       let c = p .1 .condition in
-      subst Listed (sym (p .2)) (forward-walk, c .condition .1, omega (arith, c .condition .0, word-short c)))
-      (also (λ x p. subst Listed (sym (p .1)) (back-walk, refl))
+      subst ListedHere (sym (p .2)) (forward-walk, c .condition .1, omega (arith, c .condition .0, word-short c)))
+      (also (λ x p. subst ListedHere (sym (p .1)) (back-walk, refl))
       (also (λ x p.
       let c = p .1 .condition .condition in
-      subst Listed (sym (p .2)) (back-walk, c .condition .1, omega (arith, c .condition .0, word-short c)))
+      subst ListedHere (sym (p .2)) (back-walk, c .condition .1, omega (arith, c .condition .0, word-short c)))
       (also (λ x p.
       let c = p .2 .condition in
-      subst Listed (sym (p .3)) (final-place c, final-length c))
+      subst ListedHere (sym (p .3)) (final-place c, final-length c))
       (also (λ x p.
       let c = p .3 .condition in
-      subst Listed (sym (p .4)) (whole-count (c .0), final-place (c .1), final-length (c .1)))
+      subst ListedHere (sym (p .4)) (whole-count (c .0), final-place (c .1), final-length (c .1)))
       (also (λ x p.
       let c = p .2 .condition in
-      subst Listed (sym (p .3)) (whole-count (c .0), whole-count (c .1)))
+      subst ListedHere (sym (p .3)) (whole-count (c .0), whole-count (c .1)))
       tt)))))))))))))
 
   -- every answer is an outcome or a number of offer's list
   pub offer-numbers : OfferListed (slotCount (length work)) (length word) (offerOf E f b work word .answer)
   offer-numbers =
-      first-every Listed (offerRows E f b work word) offer-listed (offerOf E f b work word .answer)
+      first-every ListedHere (offerRows E f b work word) offer-listed (offerOf E f b work word .answer)
       (offer-table E f b work word (offerOf E f b work word .answer) .0 refl)

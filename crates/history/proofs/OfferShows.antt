@@ -86,7 +86,7 @@ module _ (E : Entry) (f : List ℕ) (b : ℕ) (work word : List ℕ) where
   Forwards m len o = o .answer ≡ Forward m len → FileHolds f (λ B. Difference (E .held) B b S m len (o .word))
 
   pub forward-shows : (m len : ℕ) → offerOf E f b work word .answer ≡ Forward m len
-      → FileHolds f (λ B. Difference (E .held) B b S m len (offerOf E f b work word .word))
+      → FileHolds f (λ B. Difference (E .held) B b (slotCount (length work)) m len (offerOf E f b work word .word))
   forward-shows m len =
       by-offer E f b work word (Forwards m len) (λ n e. let z : _≡_ {A = ℕ} 0 1 = cc in absurd (omega arith))
       (λ B r i w back d c e. file-of r (walks-forward (E .held) B b S word m len (file-in-range f B r) w back d e))
@@ -96,7 +96,9 @@ module _ (E : Entry) (f : List ℕ) (b : ℕ) (work word : List ℕ) where
       o .answer ≡ Back m n len → FileHolds f (λ B. NoneFinal (E .held) B b S m × Difference B (E .held) b S n len (o .word))
 
   pub back-shows : (m n len : ℕ) → offerOf E f b work word .answer ≡ Back m n len
-      → FileHolds f (λ B. NoneFinal (E .held) B b S m × Difference B (E .held) b S n len (offerOf E f b work word .word))
+      → FileHolds f
+      (λ B. NoneFinal (E .held) B b (slotCount (length work)) m
+      × Difference B (E .held) b (slotCount (length work)) n len (offerOf E f b work word .word))
   back-shows m n len =
       by-offer E f b work word (Backs m n len) (λ k e. let z : _≡_ {A = ℕ} 0 1 = cc in absurd (omega arith))
       (λ B r i w back d c e. file-of r (walks-back (E .held) B b S word m n len (i .in-range) w back d c e))

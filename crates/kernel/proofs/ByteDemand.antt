@@ -175,11 +175,11 @@ next-letters E f b work word B t = go (eqb (E .held .letters) (B .letters)) refl
         (t .unrefused .1 .1 .1 .1 .0 (Refused 7)
         (record { automaton = B; read = t .read; condition = eqb-false (E .held .letters) (B .letters) e }, refl))
 
-abbrev First : List Automaton → Type 0
-First [] = Unit {0}
-First (A ∷ es) = WellFormed (firstEdition A) × (lastOf A es .letters ≡ A .letters)
+abbrev FirstFine : List Automaton → Type 0
+FirstFine [] = Unit {0}
+FirstFine (A ∷ es) = WellFormed (firstEdition A) × (lastOf A es .letters ≡ A .letters)
 
-first-added : (es : List Automaton) (c : Call) (B : Automaton) → First es → Adds es c B → First (es ++ B ∷ [])
+first-added : (es : List Automaton) (c : Call) (B : Automaton) → FirstFine es → Adds es c B → FirstFine (es ++ B ∷ [])
 first-added [] (openCall f) B x o = (fine-formed B [] (fine-first f B o), refl)
 first-added [] (offerCall f b work word) B x o = absurd o
 first-added (A ∷ es) (openCall f) B x o = absurd o
@@ -188,7 +188,7 @@ first-added (A ∷ es) (offerCall f b work word) B x o = (
   ap (λ (X : Automaton). X .letters) (last-append A es B) ∙ (next-letters (holding A es) f b work word B o ∙ x .1),
 )
 
-account-first : {es fs : List Automaton} {cs : List Call} → Account es cs fs → First es → First fs
+account-first : {es fs : List Automaton} {cs : List Call} → Account es cs fs → FirstFine es → FirstFine fs
 account-first done x = x
 account-first (adds {es = es} {c = c} B a r) x = account-first r (first-added es c B x a)
 account-first (keeps n r) x = account-first r x
@@ -262,7 +262,7 @@ module _ (s : List ℕ) (i : isEntry s ≡ true) (vacant : entryOf s .filled ≡
       go (inr d) = d .1 ∙ ap entryBytes (x .describes ∙ e)
 
   same-verdicts : (t : List ℕ) (E : Entry) (n : ℕ) (es : List Automaton) → E ≡ accounted (entryOf s) es → Describes s t E
-      → (E .filled ≡ true → WellFormed E) → KeptIf E n es → First es → SameVerdicts t es
+      → (E .filled ≡ true → WellFormed E) → KeptIf E n es → FirstFine es → SameVerdicts t es
   same-verdicts t E n [] e x w k g = tt
   same-verdicts t E n (A ∷ es) e x w k g = λ u v.
       let o : E .filled ≡ true = ap (λ (F : Entry). F .filled) e in

@@ -43,17 +43,17 @@ module _ (A : Automaton) where
 
   module _ (S : List Bool) (a : ℕ) where
     -- p is in S and has a transition on a to r
-    abbrev leads : ℕ → ℕ → Bool
-    leads r p = inSet S p && transition A p a r
+    abbrev leadsTo : ℕ → ℕ → Bool
+    leadsTo r p = inSet S p && transition A p a r
 
     -- some state does
     abbrev reached : ℕ → Bool
-    reached r = some (leads r) (A .states) 0
+    reached r = some (leadsTo r) (A .states) 0
 
     onLetter-sound : (r : ℕ) → T (inSet (onLetter A S a) r) → (p : ℕ) × T (inSet S p) × T (transition A p a r)
     unfolding onLetter
     onLetter-sound r t =
-        let k = some-below (leads r) (A .states) (table-sound reached (A .states) r t) in
+        let k = some-below (leadsTo r) (A .states) (table-sound reached (A .states) r t) in
         let b = and-both (inSet S (k .0)) (transition A (k .0) a r) (k .2) in
         (k .0, b .0, b .1)
 
@@ -61,7 +61,7 @@ module _ (A : Automaton) where
     unfolding onLetter
     onLetter-complete p r s t =
         table-complete reached (A .states) r (transition-into A p a r t)
-        (some-at (leads r) (A .states) p (transition-from A p a r t) (both-and (inSet S p) (transition A p a r) s t))
+        (some-at (leadsTo r) (A .states) p (transition-from A p a r t) (both-and (inSet S p) (transition A p a r) s t))
 
   -- A word.
 

@@ -14,7 +14,7 @@ use Rattle.report.specs.Summary.{SummaryOf}
 use Rattle.text.specs.Buffers.{Written}
 use Rattle.text.specs.Text.{decimal, percentSaved, space}
 use Rattle.report.specs.Line.{statesText, ofText, savedText, walksText, fields}
-use Rattle.report.specs.Line.{offerLine, lineAfter, lineLength, Lined}
+use Rattle.report.specs.Line.{offerLine, lineAfter, answeredLength, Lined}
 use Rattle.text.proofs.Buffers.{written-append, written-two, written-as, written-length}
 
 -- the fields of an edition number, held states, first states and a percent
@@ -48,7 +48,7 @@ answer-written E w q u = written-as (ap (λ (x : OfferAnswer). offerLine E x w) 
 
 -- the buffer has the bytes that are asked for, and the line is written to its front
 pub line-written : (m : ℕ) {l d e : List ℕ} {r : ℕ} → leb m (length d) ≡ true → Written d 0 l e r → Lined m l d e r
-unfolding lineAfter lineLength
+unfolding lineAfter answeredLength
 line-written m {l} {d} {e} {r} h u = record {
   bytes = u .bytes ∙ ap (λ (k : ℕ). l ++ drop k d) (zero-add (length l)) ∙ rw h;
   answer = u .behind ∙ zero-add (length l) ∙ rw h;
@@ -57,5 +57,5 @@ line-written m {l} {d} {e} {r} h u = record {
 
 -- it has not
 pub line-left : (m : ℕ) {l : List ℕ} (d : List ℕ) → leb m (length d) ≡ false → Lined m l d d 0
-unfolding lineAfter lineLength
+unfolding lineAfter answeredLength
 line-left m d h = record { bytes = rw h; answer = rw h; within = omega arith }

@@ -15,13 +15,13 @@ use Rattle.history.specs.declared.OpenAnswer.{OpenAnswer}
 use Rattle.history.specs.declared.OpenAnswer.the-variants.{Opened, Refused}
 use Rattle.history.specs.Opens.{openOf}
 use Rattle.history.specs.Offers.{Offer, offerOf, offerPart, partLength}
-use Rattle.report.specs.Line.{newline, usageText, longText, refusedLine, offerLine, lineAfter, lineLength, lineRoom, Lined}
+use Rattle.report.specs.Line.{newline, usageText, longText, refusedLine, offerLine, lineAfter, answeredLength, lineRoom, Lined}
 use Rattle.history.specs.Entries.{freshEntry}
 use Rattle.report.specs.Listing.{maxFile, workBytes, wordBytes, offerListing, openListing, listing}
 
 -- the same line, where more room is asked for and is there
 pub lined-more : {m k : ℕ} {l d e : List ℕ} {n : ℕ} → m ≤ k → k ≤ length d → Lined m l d e n → Lined k l d e n
-unfolding lineAfter lineLength
+unfolding lineAfter answeredLength
 lined-more {m} {k} {l} {d} {e} {n} h r u =
     let less : leb m (length d) ≡ true = le-leb m (length d) (omega (arith, h, r)) in
     let more : leb k (length d) ≡ true = le-leb k (length d) r in
@@ -56,27 +56,27 @@ module _ (input first offer : List ℕ) where
       rw (eq-eqb (length input) 1 h) (rw (le-ltb maxFile (length first) f) (rw (le-ltb maxFile (length offer) l)))
 
 -- the offer of the listing, with buffers of zeros
-abbrev listed : Entry → List ℕ → ℕ → Offer
-listed E offer b = offerOf E offer b (replicate workBytes 0) (replicate wordBytes 0)
+abbrev offerMade : Entry → List ℕ → ℕ → Offer
+offerMade E offer b = offerOf E offer b (replicate workBytes 0) (replicate wordBytes 0)
 
 -- the line of an offer's answer and entry, and of the front of the word buffer that it leaves
-pub listing-offered : (E : Entry) (offer : List ℕ) (b : ℕ) (x : OfferAnswer) (F : Entry) (word part : List ℕ) → x ≡ listed E offer b .answer
-    → F ≡ listed E offer b .entry → word ≡ listed E offer b .word → part ≡ take (partLength x) word
+pub listing-offered : (E : Entry) (offer : List ℕ) (b : ℕ) (x : OfferAnswer) (F : Entry) (word part : List ℕ) → x ≡ offerMade E offer b .answer
+    → F ≡ offerMade E offer b .entry → word ≡ offerMade E offer b .word → part ≡ take (partLength x) word
     → offerLine F x part ≡ offerListing E offer b
 unfolding offerListing offerPart
 listing-offered E offer b x F word part d e w p =
     ap (offerLine F x) (p ∙ ap₂ (λ (y : OfferAnswer) (l : List ℕ). take (partLength y) l) d w)
-    ∙ ap₂ (λ (y : OfferAnswer) (G : Entry). offerLine G y (take (partLength (listed E offer b .answer)) (listed E offer b .word))) d e
+    ∙ ap₂ (λ (y : OfferAnswer) (G : Entry). offerLine G y (take (partLength (offerMade E offer b .answer)) (offerMade E offer b .word))) d e
 
 -- the written part of the word buffer stands in it
-pub part-le : (E : Entry) (offer : List ℕ) (b : ℕ) (x : OfferAnswer) → x ≡ listed E offer b .answer → partLength x ≤ wordBytes
+pub part-le : (E : Entry) (offer : List ℕ) (b : ℕ) (x : OfferAnswer) → x ≡ offerMade E offer b .answer → partLength x ≤ wordBytes
 part-le E offer b x d =
     subst (λ (y : OfferAnswer). partLength y ≤ wordBytes) (sym d)
-    (subst (λ (k : ℕ). partLength (listed E offer b .answer) ≤ k) (length-replicate {A = ℕ} wordBytes 0)
+    (subst (λ (k : ℕ). partLength (offerMade E offer b .answer) ≤ k) (length-replicate {A = ℕ} wordBytes 0)
     (offer-part-le E offer b (replicate workBytes 0) (replicate wordBytes 0)))
 
 -- the room that is asked for its line
-pub part-room : (E : Entry) (offer : List ℕ) (b : ℕ) (x : OfferAnswer) (word part : List ℕ) → x ≡ listed E offer b .answer
+pub part-room : (E : Entry) (offer : List ℕ) (b : ℕ) (x : OfferAnswer) (word part : List ℕ) → x ≡ offerMade E offer b .answer
     → length word ≡ wordBytes → part ≡ take (partLength x) word → lineRoom part ≤ 256 + 4 * wordBytes
 part-room E offer b x word part d long p =
     let h = part-le E offer b x d in omega (arith, h, ap length p, length-take-le (partLength x) word (omega (arith, h, long)))

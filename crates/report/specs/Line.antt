@@ -6,7 +6,7 @@
 --   lineRoom w             the bytes that are asked for a line with the letters w: a number takes at most 20, a letter and its space 4
 --   lineAfter m l d        a buffer d after the line l, for which m bytes are asked: the line in front and the rest as it was, or
 --                          nothing written where d has fewer
---   lineLength m l d       the length that is answered: the line's, or 0 where nothing is written
+--   answeredLength m l d   the length that is answered: the line's, or 0 where nothing is written
 --   Lined m l d e n        the buffer d is e after the line l, and n is the length that is answered, which is within the buffer
 -- Shown by `taken-line` and `back-line`, the lines that 01 prints, and by the contract of `offer_line`. Assumes nothing.
 use mathlib.Core.Path.{_≡_}
@@ -89,10 +89,10 @@ lineRoom w = 256 + 4 * length w
 unfoldable pub lineAfter : ℕ → List ℕ → List ℕ → List ℕ
 lineAfter m l d = cond (leb m (length d)) (l ++ drop (length l) d) d
 
-unfoldable pub lineLength : ℕ → List ℕ → List ℕ → ℕ
-lineLength m l d = cond (leb m (length d)) (length l) 0
+unfoldable pub answeredLength : ℕ → List ℕ → List ℕ → ℕ
+answeredLength m l d = cond (leb m (length d)) (length l) 0
 
 pub record Lined (m : ℕ) (l d e : List ℕ) (n : ℕ) : Type 0 where
   pub bytes : e ≡ lineAfter m l d
-  pub answer : n ≡ lineLength m l d
+  pub answer : n ≡ answeredLength m l d
   pub within : n ≤ length e

@@ -39,13 +39,13 @@ module _ (A B : Automaton) where
 
   module _ (R : ℕ → ℕ → Type 0) (S : DirectSimulation A B R) where
     -- a run of B from q on w, accepting where the states ts of a run of A are
-    record Met (q : ℕ) (w ts : List ℕ) : Type 0 where
+    record RunMatched (q : ℕ) (w ts : List ℕ) : Type 0 where
       end : ℕ
       states : List ℕ
       run : Run B q w end states
       matched : Matched ts states
 
-    run-met : {p q e : ℕ} {w ts : List ℕ} → R p q → Run A p w e ts → Met q w ts
+    run-met : {p q e : ℕ} {w ts : List ℕ} → R p q → Run A p w e ts → RunMatched q w ts
     run-met {q = q} h here = record { end = q; states = []; run = here; matched = tt }
     run-met {q = q} h (step {p = p} {a = a} {t = t} x k) =
         let y = S .meets p q a t h x in

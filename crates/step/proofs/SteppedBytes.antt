@@ -50,12 +50,12 @@ table-is f l n e h =
 
 -- A loop that writes a table of 32, one element after the other: those below r are written.
 
-pub record Written (f : ℕ → ℕ) (l : List ℕ) (r : ℕ) : Type 0 where
+pub record TableWritten (f : ℕ → ℕ) (l : List ℕ) (r : ℕ) : Type 0 where
   pub long : length l ≡ maxStates
   pub done : (k : ℕ) → k < r → getD l k 0 ≡ f k
 
 module _ {f : ℕ → ℕ} {l : List ℕ} {r : ℕ} where
-  pub written-more : (y : ℕ) → r < maxStates → Written f l r → y ≡ f r → Written f (set l r y) (r + 1)
+  pub written-more : (y : ℕ) → r < maxStates → TableWritten f l r → y ≡ f r → TableWritten f (set l r y) (r + 1)
   written-more y h W e =
       record {
         long = length-set l r y ∙ W .long;
@@ -65,7 +65,7 @@ module _ {f : ℕ → ℕ} {l : List ℕ} {r : ℕ} where
             (λ q. getD-set-other l r k y 0 (λ d. absurd (omega arith)) ∙ W .done k q) (eq-or-lt-of-le {n = k} {m = r} (omega arith));
       }
 
-  pub written-all : maxStates ≤ r → Written f l r → l ≡ table f maxStates 0
+  pub written-all : maxStates ≤ r → TableWritten f l r → l ≡ table f maxStates 0
   written-all h W = table-is f l maxStates (W .long) (λ k i. W .done k (omega arith))
 
 -- The masks of an automaton's transitions show its predecessors: a counter is a byte, so a mask of 255 leaves it as it is.

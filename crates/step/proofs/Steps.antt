@@ -20,7 +20,7 @@ use Rattle.relations.proofs.Rows.{table-same}
 use Rattle.slots.specs.declared.Vertex.{Vertex}
 use Rattle.graph.specs.LagGraph.{initialCounter, initialVertex, counter, stepped}
 use Rattle.step.specs.Masks.{Masks}
-use Rattle.step.specs.Steps.{largestMasked, allLargest, topsOf, counterAt, countersFrom, countersOn, initialFrom, RightSide}
+use Rattle.step.specs.Steps.{largestMasked, allLargest, topsOf, counterAt, steppedCounters, countersOn, initialFrom, RightRules}
 use Rattle.step.proofs.SteppedBytes.{NoneFrom, accepts-in-range, table-is, masked-into, counter-is}
 
 -- One step.
@@ -32,7 +32,7 @@ module _ (A B : Automaton) (b : ℕ) (R : InRange B) (a k : ℕ) (below : a < k)
       not-T-false (transitionIn (B .transitions) p a r) (λ s. omega (arith, R .transitions-in p a r l (omega arith) i s .0))
 
   own-counters : countersOn (topsOf (B .accepting) (b + 1)) m (B .states) a f (one (accepts A t)) ≡ stepped A B b a t f
-  unfolding stepped allLargest topsOf countersFrom
+  unfolding stepped allLargest topsOf steppedCounters
   own-counters =
       table-same
       (λ r. counterAt (getD (topsOf (B .accepting) (b + 1)) r 0) (one (accepts A t)) (getD (allLargest m (B .states) a f) r 0))
@@ -44,7 +44,7 @@ module _ (A B : Automaton) (b : ℕ) (R : InRange B) (a k : ℕ) (below : a < k)
       ∙ sym (counter-is A B b R a t f (omega arith) r i))
 
 -- the counters after a step on letter a to the left target t
-pub counters-on : (A B : Automaton) (b : ℕ) (tops m : List ℕ) (n k : ℕ) → RightSide tops m n k b B → (a : ℕ) → a < k → k ≤ maxLetters
+pub counters-on : (A B : Automaton) (b : ℕ) (tops m : List ℕ) (n k : ℕ) → RightRules tops m n k b B → (a : ℕ) → a < k → k ≤ maxLetters
     → (f : List ℕ) → ((p : ℕ) → p < n → getD f p 0 < 256) → (t : ℕ)
     → countersOn tops m n a f (one (accepts A t)) ≡ stepped A B b a t f
 counters-on A B b tops m n k R a below few f bytes t =

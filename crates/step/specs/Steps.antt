@@ -8,11 +8,10 @@
 --   topsOf accepting top     the counter that each right state is raised to: top where it accepts, and 0 where it does not
 --   counterAt top visits x   the counter after a step of a right state that is raised to top, where its predecessors have x at most;
 --                            visits is 1 where the left target accepts, and 0 where it does not
---   countersFrom tops visits xs      the same of all right states
+--   steppedCounters tops visits xs   the same of all right states
 --   countersOn tops m n a f visits   the counters after a step on letter a from the counters f
 --   initialFrom p x q y b    the initial vertex of two automata with the initial states p and q and the accepting states x and y
---   Side                     the bytes of the accepting states and of the transitions are those of the automaton A, which is in range
---   RightSide                the tops, the number n of states and the masks are those of the automaton B at the bound b
+--   RightRules               the tops, the number n of states and the masks are those of the automaton B at the bound b
 -- Shown by `counters-on` and `initial-from`: what the code makes of counters and a letter are the counters of the lag-checking graph, and the
 -- vertex that it starts from is the graph's. Assumes nothing.
 use mathlib.Core.Path.{_≡_}
@@ -55,11 +54,11 @@ topsOf accepting top = table (λ r. cond (member accepting r) top 0) maxStates 0
 abbrev pub counterAt : ℕ → ℕ → ℕ → ℕ
 counterAt top visits x = cond (eqb top 0) (x - visits) (cond (ltb 0 x) top 0)
 
-unfoldable pub countersFrom : List ℕ → ℕ → List ℕ → List ℕ
-countersFrom tops visits xs = table (λ r. counterAt (getD tops r 0) visits (getD xs r 0)) maxStates 0
+unfoldable pub steppedCounters : List ℕ → ℕ → List ℕ → List ℕ
+steppedCounters tops visits xs = table (λ r. counterAt (getD tops r 0) visits (getD xs r 0)) maxStates 0
 
 abbrev pub countersOn : List ℕ → List ℕ → ℕ → ℕ → List ℕ → ℕ → List ℕ
-countersOn tops m n a f visits = countersFrom tops visits (allLargest m n a f)
+countersOn tops m n a f visits = steppedCounters tops visits (allLargest m n a f)
 
 unfoldable pub initialFrom : ℕ → List ℕ → ℕ → List ℕ → ℕ → Vertex
 initialFrom p x q y b =
@@ -68,13 +67,8 @@ initialFrom p x q y b =
       counters = table (λ r. cond (eqb r q) (cond (member x p && not (member y q)) b (b + 1)) 0) maxStates 0;
     }
 
-pub record Side (accepting transitions : List ℕ) (A : Automaton) : Type 0 where
-  pub accepting-is : accepting ≡ A .accepting
-  pub transitions-are : transitions ≡ A .transitions
-  pub in-range : InRange A
-
 -- the masks are those of the letters below k
-pub record RightSide (tops m : List ℕ) (n k b : ℕ) (B : Automaton) : Type 0 where
+pub record RightRules (tops m : List ℕ) (n k b : ℕ) (B : Automaton) : Type 0 where
   pub tops-are : tops ≡ topsOf (B .accepting) (b + 1)
   pub states-are : n ≡ B .states
   pub masks-are : Masks m (B .transitions) n k

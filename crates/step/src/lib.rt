@@ -9,7 +9,7 @@ ghost use Rattle.automaton.specs.Automata.{maxStates};
 ghost use Rattle.automaton.specs.Ranges.{table};
 ghost use Rattle.graph.specs.LagGraph.{maxBound};
 ghost use Rattle.step.specs.Masks.{rowPlace};
-ghost use Rattle.step.specs.Steps.{PresentOf, allLargest, topsOf, counterAt, countersFrom, initialFrom};
+ghost use Rattle.step.specs.Steps.{PresentOf, allLargest, topsOf, counterAt, steppedCounters, initialFrom};
 
 pub mod masks;
 pub mod present;
@@ -107,7 +107,7 @@ fn counter_at(top: u8, visits: u8, largest: u8) -> u8
 
 // The counters of all right states after a step to a left target; `visits` is 1 where the target accepts, and 0 where it does not.
 pub fn counters_after(tops: &[u8; 32], visits: u8, largest: [u8; 32]) -> [u8; 32]
-    ensures { λ l. ⌜ l ≡ countersFrom (now (tops .entry)) visits largest ⌝ }
+    ensures { λ l. ⌜ l ≡ steppedCounters (now (tops .entry)) visits largest ⌝ }
 {
     let mut after = [0u8; 32];
     let mut r: usize = 0;

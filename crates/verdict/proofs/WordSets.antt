@@ -81,19 +81,19 @@ module _ (A : Automaton) (n k : ℕ) (rows : List ℕ) (h : HeldRows A n k rows)
   -- One letter of the stem.
 
   -- a transition on a leads from a state of the set to q
-  abbrev leads : ℕ → ℕ → ℕ → ℕ → Bool
-  leads w a q p = inSet (setOf n w) p && transition A p a q
+  abbrev leadsTo : ℕ → ℕ → ℕ → ℕ → Bool
+  leadsTo w a q p = inSet (setOf n w) p && transition A p a q
 
-  letter-same : (w a r : ℕ) → ((q : ℕ) → q < n → bit r q ≡ some (leads w a q) n 0) → setOf n r ≡ onLetter A (setOf n w) a
+  letter-same : (w a r : ℕ) → ((q : ℕ) → q < n → bit r q ≡ some (leadsTo w a q) n 0) → setOf n r ≡ onLetter A (setOf n w) a
   unfolding onLetter
   letter-same w a r e =
-      table-same (bit r) (λ q. some (leads w a q) n 0) n e
-      ∙ ap (λ (m : ℕ). table (λ q. some (leads w a q) m 0) m 0) (sym (h .states))
+      table-same (bit r) (λ q. some (leadsTo w a q) n 0) n e
+      ∙ ap (λ (m : ℕ). table (λ q. some (leadsTo w a q) m 0) m 0) (sym (h .states))
 
   pub letter-none : (w a : ℕ) → k ≤ a → setOf n 0 ≡ onLetter A (setOf n w) a
   letter-none w a l =
-      letter-same w a 0 (λ q hq. bit-zero q ∙ sym (not-T-false (some (leads w a q) n 0)
-      (λ t. let s = some-below (leads w a q) n t in
+      letter-same w a 0 (λ q hq. bit-zero q ∙ sym (not-T-false (some (leadsTo w a q) n 0)
+      (λ t. let s = some-below (leadsTo w a q) n t in
       let b = and-both (inSet (setOf n w) (s .0)) (transition A (s .0) a q) (s .2) in
       subst T (no-letter (s .0) a q l) (b .1))))
 
@@ -106,14 +106,14 @@ module _ (A : Automaton) (n k : ℕ) (rows : List ℕ) (h : HeldRows A n k rows)
           not-T-false (bit w p && transition A p a q)
           (λ t. subst T (no-source p a q hp) (and-both (bit w p) (transition A p a q) t .1))
 
-      at : (q : ℕ) → q < n → bit r q ≡ some (leads w a q) n 0
+      at : (q : ℕ) → q < n → bit r q ≡ some (leadsTo w a q) n 0
       at q hq =
           let m = h .in-range .few-states in
           let s = h .states in
           e q
           ∙ some-same _ (λ p. bit w p && transition A p a q) (groupsFor n * 4)
           (λ p hp. ap (λ (b : Bool). bit w p && b) (h .targets a p q l (omega (arith, groups .0)) (omega arith)))
-          ∙ some-cut _ (leads w a q) n (groupsFor n * 4) (groups .1)
+          ∙ some-cut _ (leadsTo w a q) n (groupsFor n * 4) (groups .1)
           (λ p hp. ap (λ (b : Bool). b && transition A p a q) (sym (table-at (bit w) n p false hp))) (λ p hp. none p q hp)
 
   -- One letter in front of the loop word.

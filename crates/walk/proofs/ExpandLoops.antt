@@ -20,10 +20,10 @@ use Rattle.discovery.specs.declared.Walked.{Walked}
 use Rattle.discovery.specs.declared.Walked.the-variants.{Going}
 use Rattle.discovery.specs.Representation.{Represents, Becomes}
 use Rattle.discovery.proofs.RepresentedSlots.{slot-represented}
-use Rattle.discovery.proofs.FoldLoops.{Stops, represented-going, FoldLoops, onward-next, onward-stop, onward-end}
-use Rattle.letters.specs.declared.Rules.{Rules}
-use Rattle.letters.specs.Rules.{RulesOf}
-use Rattle.letters.proofs.LetterSteps.{edgesOn, LetterDone}
+use Rattle.discovery.proofs.FoldLoops.{EndsWalk, represented-going, FoldLoops, onward-next, onward-stop, onward-end}
+use Rattle.successors.specs.declared.Rules.{Rules}
+use Rattle.successors.specs.Rules.{RulesOf}
+use Rattle.successors.proofs.LetterSteps.{edgesOn, LetterDone}
 
 -- The letters on which a place is expanded.
 
@@ -78,7 +78,7 @@ module _ (rules : Rules) (tops lefts masks : List ℕ) (v : Vertex) (p : ℕ) (b
         (edges-none A B b v (rules .letters) a h)
 
     module _ (h : a < rules .letters) (work′ : List ℕ) (r : Walked) (seen : LetterDone rules tops lefts masks v a p work m work′ r) where
-      pub letters-stop : Stops r → PlaceDone rules tops lefts masks p before n work′ r
+      pub letters-stop : EndsWalk r → PlaceDone rules tops lefts masks p before n work′ r
       letters-stop k A B b R start ns S =
           onward-stop A B b p work m work′ r start (edgesOn A B b v a) (edgesFromLetter A B b v (rules .letters) (a + 1))
           (edgesFromLetter A B b v (rules .letters) a) _ (O A B b R start ns S) (edges-more A B b v (rules .letters) a h) (seen A B b R) k
@@ -104,10 +104,10 @@ PlacesDone rules tops lefts masks before n work r =
     (A B : Automaton) (b : ℕ) → RulesOf rules tops lefts masks A B b
     → Becomes before n work r (λ S. expandAll (lagGraph A B b) (below S) S 0)
 
-pub stopped-expand-all : (A B : Automaton) (b S k p : ℕ) (work : List ℕ) (r : Walked) (start : List ℕ) (w : Walk Vertex) → Stops r
+pub stopped-expand-all : (A B : Automaton) (b S k p : ℕ) (work : List ℕ) (r : Walked) (start : List ℕ) (w : Walk Vertex) → EndsWalk r
     → Represents work r start w
     → expandAll (lagGraph A B b) (below S) k p w ≡ w
-stopped-expand-all A B b S k p work r start (going ns) t s = absurd (subst Stops (s .answer) t)
+stopped-expand-all A B b S k p work r start (going ns) t s = absurd (subst EndsWalk (s .answer) t)
 stopped-expand-all A B b S k p work r start (ended ns n) t s = expand-all-ended (lagGraph A B b) (below S) k p ns n
 stopped-expand-all A B b S k p work r start (full ns) t s = expand-all-full (lagGraph A B b) (below S) k p ns
 
@@ -149,7 +149,7 @@ module _ (rules : Rules) (tops lefts masks before : List ℕ) (n : ℕ) where
             let count : m ≡ length so-far = let q = o .1 .answer in cc in
             sym (one-expand A B b slots (going so-far) (omega arith)) ∙ o .2
 
-      pub expand-all-stop : Stops r → PlacesDone rules tops lefts masks before n work′ r
+      pub expand-all-stop : EndsWalk r → PlacesDone rules tops lefts masks before n work′ r
       expand-all-stop t A B b R start ns S =
           let k = slotCount (length start) in
           let w = expand (lagGraph A B b) (below k) p (going (so-far A B b R start ns S)) in

@@ -39,33 +39,33 @@ module _ (work : List ℕ) (letter parent : ℕ) where
   final-some (suc place) h = refl
 
 -- the answer r and the word buffer are those of the word w
-abbrev pub Read : List ℕ → ℕ → List ℕ → List ℕ → Type 0
-Read word r after w = (r ≡ length w) × (after ≡ wordAfter word w)
+abbrev pub WordGiven : List ℕ → ℕ → List ℕ → List ℕ → Type 0
+WordGiven word r after w = (r ≡ length w) × (after ≡ wordAfter word w)
 
 module _ (work : List ℕ) (place letter parent : ℕ) (word : List ℕ) where
-  pub read-none : place ≡ 0 → Read word 0 word (finalWordIn work place letter parent)
+  pub read-none : place ≡ 0 → WordGiven word 0 word (finalWordIn work place letter parent)
   read-none e =
-      subst (Read word 0 word) (sym (final-none work letter parent place e))
+      subst (WordGiven word 0 word) (sym (final-none work letter parent place e))
       (refl, ap (λ (c : Bool). cond c word word) (sym (le-leb 0 (length word) (omega arith))))
 
   module _ (n : ℕ) (h : 0 < place) (before : n ≡ length (wordAt work parent)) where
     size : length (wordAt work parent ++ letter ∷ []) ≡ n + 1
     size = length-append (wordAt work parent) (letter ∷ []) ∙ ap (λ (k : ℕ). k + 1) (sym before)
 
-    pub read-short : length word ≤ n → Read word (n + 1) word (finalWordIn work place letter parent)
+    pub read-short : length word ≤ n → WordGiven word (n + 1) word (finalWordIn work place letter parent)
     read-short l =
         let w = wordAt work parent ++ letter ∷ [] in
-        subst (Read word (n + 1) word) (sym (final-some work letter parent place h)) (
+        subst (WordGiven word (n + 1) word) (sym (final-some work letter parent place h)) (
           sym size,
           sym (ap (λ (c : Bool). cond c (w ++ drop (length w) word) word) (lt-leb (length w) (length word) (omega (arith, size)))),
         )
 
     pub read-written : n < length word → (last : List ℕ) (k : ℕ) → k ≡ length (wordAt work parent) → last ≡ wordAt work parent ++ drop k word
-        → Read word (n + 1) (set last k letter) (finalWordIn work place letter parent)
+        → WordGiven word (n + 1) (set last k letter) (finalWordIn work place letter parent)
     read-written l last k q e =
         let w = wordAt work parent ++ letter ∷ [] in
         let d : length w ≡ k + 1 = size ∙ ap (λ (j : ℕ). j + 1) (before ∙ sym q) in
-        subst (Read word (n + 1) (set last k letter)) (sym (final-some work letter parent place h)) (
+        subst (WordGiven word (n + 1) (set last k letter)) (sym (final-some work letter parent place h)) (
           sym size,
           letter-put (wordAt work parent) word last k letter q (omega (arith, q, before)) e
               ∙ ap (λ (j : ℕ). w ++ drop j word) (sym d)

@@ -29,9 +29,9 @@ use Rattle.discovery.specs.declared.Walked.{Walked}
 use Rattle.discovery.specs.declared.Walked.the-variants.{Going, Ended, Full}
 use Rattle.discovery.specs.Representation.{Represents, Ready}
 use Rattle.discovery.proofs.RepresentedSlots.{represented-none, ready-none, ready-with-slot, discover-final, discover-full, discover-with-slot}
-use Rattle.discovery.proofs.FoldLoops.{Stops, represented-going}
-use Rattle.letters.specs.declared.Rules.{Rules}
-use Rattle.letters.specs.Rules.{RulesOf}
+use Rattle.discovery.proofs.FoldLoops.{EndsWalk, represented-going}
+use Rattle.successors.specs.declared.Rules.{Rules}
+use Rattle.successors.specs.Rules.{RulesOf}
 use Rattle.walk.proofs.ExpandLoops.{PlacesDone, stopped-expand-all}
 
 pub initial-wide : (A B : Automaton) (b : ℕ) → length (initialVertex A B b .counters) ≡ maxStates
@@ -81,7 +81,7 @@ module _ (A B : Automaton) (b : ℕ) (first : Vertex) (is : first ≡ initialVer
   began work′ r S =
       subst (λ (v : Vertex). Represents work′ r work (discover (lagGraph A B b) (below slots) noParent (going []) (noLetter, v))) is S
 
-  stopped : (work′ : List ℕ) (r : Walked) → Stops r → Represents work′ r work (begin (lagGraph A B b) (below slots))
+  stopped : (work′ : List ℕ) (r : Walked) → EndsWalk r → Represents work′ r work (begin (lagGraph A B b) (below slots))
       → Represents work′ r work (walkOf A B b slots)
   unfolding walkOf
   stopped work′ r t S =

@@ -15,7 +15,7 @@ use Rattle.classes.proofs.ListedStates.{class-at}
 use Rattle.discovery.specs.declared.Walked.{Walked}
 use Rattle.discovery.specs.declared.Walked.the-variants.{Going, Ended, Full}
 use Rattle.discovery.specs.Representation.{Ready, Grows}
-use Rattle.discovery.proofs.FoldLoops.{Stops}
+use Rattle.discovery.proofs.FoldLoops.{EndsWalk}
 use Rattle.kept.specs.Kept.{lines, lineLength, keptAfter, KeptStep, KeptLines}
 use Rattle.kept.proofs.KeptSteps.{kept-line, line-owner, kept-step, kept-grows}
 use Rattle.walk.specs.Ready.{ReadyNext}
@@ -28,7 +28,7 @@ pub record Owns (work : List ℕ) (count class line : ℕ) (counters owners : Li
   pub has : countersAt work slot ≡ counters
   pub from : line ≡ class % lines * lineLength
 
-pub stops-ready : (tops m : List ℕ) (states : ℕ) (r : Walked) (work heads nexts listed owners kept : List ℕ) → Stops r
+pub stops-ready : (tops m : List ℕ) (states : ℕ) (r : Walked) (work heads nexts listed owners kept : List ℕ) → EndsWalk r
     → ReadyNext tops m states r work heads nexts listed owners kept
 stops-ready tops m states (Going n) work heads nexts listed owners kept t = absurd t
 stops-ready tops m states (Ended i a p) work heads nexts listed owners kept t = tt

@@ -1,6 +1,6 @@
 -- What the next place needs.
 --   ReadyNext      where the list goes on: the slots, their index, and the steps that are kept
--- Only contracts between functions name it; the contract of `walk` settles it. Assumes nothing.
+-- Nothing settles it: only contracts between functions name it. Assumes nothing.
 use mathlib.Core.List.{List}
 use Prim.Native.Nat.{ℕ}
 use Rattle.discovery.specs.declared.Walked.{Walked}

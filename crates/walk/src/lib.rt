@@ -14,13 +14,13 @@ ghost use Rattle.graph.specs.Walks.{walkOf, workAfter, wordAfter};
 ghost use Rattle.step.specs.Masks.{rowPlace};
 ghost use Rattle.discovery.specs.Representation.{walkedOf, Represents, Becomes, Ready};
 ghost use Rattle.kept.specs.Kept.{KeptLines};
-ghost use Rattle.letters.specs.Rules.{RulesOf};
+ghost use Rattle.successors.specs.Rules.{RulesOf};
 ghost use Rattle.walk.specs.FinalWord.{finalWordIn};
 ghost use Rattle.walk.specs.Ready.{ReadyNext};
 use automaton::Head;
 use discovery::Walked;
-use letters::Rules;
 use slots::Vertex;
+use successors::Rules;
 
 // Expands place p: all successors of its vertex, letters upwards, left targets upwards.
 fn expand(
@@ -63,7 +63,7 @@ fn expand(
     let mut count = n;
     let mut letter: usize = 0;
     while letter < letters {
-        let seen = letters::expand_letter(
+        let seen = successors::expand_letter(
             rules,
             tops,
             lefts,

@@ -4,12 +4,12 @@ use mathlib.Core.Path.{sym, _∙_}
 use Prim.Native.Nat.{_-_}
 use native.Mathlib.Omega.{arith}
 use borrow.Author.Needs.{needs}
-use Rattle.classes.proofs.Leaders.{Chain, chain-start, chain-next, chain-here, chain-end}
+use Rattle.classes.proofs.Leaders.{OnChain, chain-start, chain-next, chain-here, chain-end}
 use Rattle.classes.proofs.class_of.Statement.{statement}
 use Rattle.classes.proofs.class_of.Tie as tie
 
 abbrev Inv-loop : tie.InvT-loop
-Inv-loop work heads nexts n counters key c₀ c = Chain work counters n key c
+Inv-loop work heads nexts n counters key c₀ c = OnChain work counters n key c
 
 abbrev μ-loop : tie.MeasureT-loop
 μ-loop work heads nexts n counters key c₀ c = c

@@ -5,13 +5,13 @@ use borrow.Author.Count.{below-none}
 use borrow.Author.Needs.{needs}
 use lib.ListN.{getD}
 use Rattle.automaton.specs.Automata.{maxStates}
-use Rattle.step.specs.Steps.{counterAt, countersFrom}
-use Rattle.step.proofs.SteppedBytes.{Written, written-more, written-all}
+use Rattle.step.specs.Steps.{counterAt, steppedCounters}
+use Rattle.step.proofs.SteppedBytes.{TableWritten, written-more, written-all}
 use Rattle.step.proofs.counters_after.Statement.{statement}
 use Rattle.step.proofs.counters_after.Tie as tie
 
 abbrev Inv-loop : tie.InvT-loop
-Inv-loop tops visits largest after₀ r₀ after r = (r ≤ maxStates) × Written (λ k. counterAt (getD tops k 0) visits (getD largest k 0)) after r
+Inv-loop tops visits largest after₀ r₀ after r = (r ≤ maxStates) × TableWritten (λ k. counterAt (getD tops k 0) visits (getD largest k 0)) after r
 
 abbrev μ-loop : tie.MeasureT-loop
 μ-loop tops visits largest after₀ r₀ after r = maxStates - r
@@ -41,7 +41,7 @@ loop-again : tie.Need-loop-again Inv-loop μ-loop
 loop-again c = (search needs, written-more _ (omega arith) (c .before .before .before .loop .inv .1) (c .counter-at .ensures))
 
 returns : tie.Need-returns Inv-loop μ-loop
-unfolding countersFrom
+unfolding steppedCounters
 returns c = written-all (omega arith) (c .before .loop .inv .1)
 
 pub counters-after-spec : {M : Type 1} → statement M

@@ -7,13 +7,13 @@ use borrow.Author.Needs.{needs}
 use lib.ListN.{getD}
 use lib.Seq.{getD-set-other}
 use Rattle.automaton.specs.Automata.{maxStates}
-use Rattle.step.proofs.SteppedBytes.{Written, written-more, written-all}
+use Rattle.step.proofs.SteppedBytes.{TableWritten, written-more, written-all}
 use Rattle.step.proofs.raised.Statement.{statement}
 use Rattle.step.proofs.raised.Tie as tie
 
 abbrev Inv-loop : tie.InvT-loop
 Inv-loop masks at counter after₀ r₀ after r = (r ≤ maxStates)
-    × Written (λ k. max (getD after₀ k 0) (min counter (getD masks (at + k) 0))) after r
+    × TableWritten (λ k. max (getD after₀ k 0) (min counter (getD masks (at + k) 0))) after r
     × ((k : ℕ) → r ≤ k → getD after k 0 ≡ getD after₀ k 0)
 
 abbrev μ-loop : tie.MeasureT-loop

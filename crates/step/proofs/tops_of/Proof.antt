@@ -12,12 +12,12 @@ use lib.Seq.{getD-set-other}
 use Rattle.automaton.specs.Automata.{maxStates}
 use Rattle.automaton.specs.Sets.{member}
 use Rattle.step.specs.Steps.{topsOf}
-use Rattle.step.proofs.SteppedBytes.{Written, written-more, written-all}
+use Rattle.step.proofs.SteppedBytes.{TableWritten, written-more, written-all}
 use Rattle.step.proofs.tops_of.Statement.{statement}
 use Rattle.step.proofs.tops_of.Tie as tie
 
 record TopsBelow (s : List ℕ) (top : ℕ) (l : List ℕ) (r : ℕ) : Type 0 where
-  written : Written (λ k. cond (member s k) top 0) l r
+  written : TableWritten (λ k. cond (member s k) top 0) l r
   rest : (k : ℕ) → r ≤ k → k < maxStates → getD l k 0 ≡ 0
 
 module _ (s : List ℕ) (top : ℕ) (l : List ℕ) (r : ℕ) (W : TopsBelow s top l r) (h : r < maxStates) where

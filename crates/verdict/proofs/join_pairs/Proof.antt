@@ -19,14 +19,14 @@ use Rattle.verdict.proofs.join_pairs.Statement.{statement}
 use Rattle.verdict.proofs.join_pairs.Tie as tie
 
 -- the word w is the union of the values of the targets of p
-abbrev Joined : List ℕ → ℕ → ℕ → List ℕ → ℕ → ℕ → ℕ → Type 0
-Joined rows k a table n p w =
+abbrev PairsJoined : List ℕ → ℕ → ℕ → List ℕ → ℕ → ℕ → ℕ → Type 0
+PairsJoined rows k a table n p w =
     (A : Automaton) (values : List ℕ) → HeldRows A n k rows → Unions table 0 values 0 (groupsFor n)
     → (x : ℕ) → bit w x ≡ some (λ t. transition A p a t && rowHas values t x) n 0
 
 abbrev Inv-loop : tie.InvT-loop
 Inv-loop rows letters letter table n pairs₀ p₀ pairs p =
-    (p ≤ n) × (length pairs ≡ length pairs₀) × Rewritten (Joined rows letters letter table n) pairs₀ p pairs
+    (p ≤ n) × (length pairs ≡ length pairs₀) × Rewritten (PairsJoined rows letters letter table n) pairs₀ p pairs
 
 abbrev μ-loop : tie.MeasureT-loop
 μ-loop rows letters letter table n pairs₀ p₀ pairs p = n - p

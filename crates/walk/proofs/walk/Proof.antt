@@ -16,8 +16,8 @@ use Rattle.graph.specs.LagGraph.{initialVertex}
 use Rattle.step.specs.Masks.{rowPlace, masksAfter}
 use Rattle.step.proofs.Steps.{initial-from}
 use Rattle.discovery.proofs.FinalVertices.{all-zero-is}
-use Rattle.letters.specs.declared.Rules.{Rules}
-use Rattle.letters.specs.Rules.{RulesOf}
+use Rattle.successors.specs.declared.Rules.{Rules}
+use Rattle.successors.specs.Rules.{RulesOf}
 use Rattle.walk.proofs.FirstVertices.{initial-wide, initial-small, few-pairs, rules-hold, first-final, first-full}
 use Rattle.walk.proofs.walk.Statement.{statement}
 use Rattle.walk.proofs.walk.Tie as tie

@@ -31,7 +31,7 @@ use Rattle.graph.specs.Discovery.{Walk, going, below, discoverAll}
 use Rattle.graph.specs.LagGraph.{stepped, successor, lagGraph}
 use Rattle.graph.proofs.Unlisted.{discover-unlisted}
 use Rattle.step.specs.Masks.{rowPlace}
-use Rattle.step.specs.Steps.{countersFrom, countersOn}
+use Rattle.step.specs.Steps.{steppedCounters, countersOn}
 use Rattle.step.proofs.SteppedBytes.{transition-in-range}
 use Rattle.step.proofs.Steps.{counters-on}
 use Rattle.discovery.specs.declared.Walked.{Walked}
@@ -42,9 +42,9 @@ use Rattle.discovery.proofs.RepresentedSlots.{listed-represented}
 use Rattle.discovery.proofs.LeastStates.{states-none}
 use Rattle.discovery.proofs.LeftTargets.{edgesOf}
 use Rattle.kept.specs.Kept.{KeptStep}
-use Rattle.letters.specs.declared.Rules.{Rules}
-use Rattle.letters.specs.Rules.{RulesOf}
-use Rattle.letters.specs.Targets.{TargetsLeft}
+use Rattle.successors.specs.declared.Rules.{Rules}
+use Rattle.successors.specs.Rules.{RulesOf}
+use Rattle.successors.specs.Targets.{TargetsUnlisted}
 
 -- the successors on letter a
 abbrev pub edgesOn : Automaton → Automaton → ℕ → Vertex → ℕ → List (ℕ × Vertex)
@@ -222,7 +222,7 @@ module _ (work cs : List ℕ) (n : ℕ) where
 
 module _ (work nexts listed : List ℕ) (n : ℕ) (J : Joined work nexts listed n) where
   -- where no target is left, the kept class of a side that has targets is known
-  pub none-left-low : (cs : List ℕ) (c d w v x t : ℕ) → Known work cs n c → TargetsLeft listed c d w v x → bit x t ≡ false → t < maxStates
+  pub none-left-low : (cs : List ℕ) (c d w v x t : ℕ) → Known work cs n c → TargetsUnlisted listed c d w v x → bit x t ≡ false → t < maxStates
       → bit w t ≡ true → bit (listedIn listed c) t ≡ listedWith work cs n t
   none-left-low cs zero d w v x t K W e l h = clash (W t ∙ go (bit w t) (bit v t && not (bit (listedIn listed d) t)) h) e
     where
@@ -231,7 +231,7 @@ module _ (work nexts listed : List ℕ) (n : ℕ) (J : Joined work nexts listed 
       go false z q = absurd (true≢false (sym q))
   none-left-low cs (suc s) d w v x t K W e l h = class-listed work nexts listed n J cs (suc s) t (sym (K s refl)) l
 
-  pub none-left-other : (cs : List ℕ) (c d w v x t : ℕ) → Known work cs n d → TargetsLeft listed c d w v x → bit x t ≡ false → t < maxStates
+  pub none-left-other : (cs : List ℕ) (c d w v x t : ℕ) → Known work cs n d → TargetsUnlisted listed c d w v x → bit x t ≡ false → t < maxStates
       → bit v t ≡ true → bit (listedIn listed d) t ≡ listedWith work cs n t
   none-left-other cs c zero w v x t K W e l h = clash (W t ∙ go (bit w t && not (bit (listedIn listed c) t)) (bit v t) h) e
     where
@@ -242,7 +242,7 @@ module _ (work nexts listed : List ℕ) (n : ℕ) (J : Joined work nexts listed 
   none-left-other cs c (suc s) w v x t K W e l h = class-listed work nexts listed n J cs (suc s) t (sym (K s refl)) l
 
   module _ (tw accepting : ℕ) (small : tw < 2 ^ 32) (lowered others : List ℕ) (c d x : ℕ)
-      (X : TargetsLeft listed c d (bitAnd tw accepting) (bitXor tw (bitAnd tw accepting)) x)
+      (X : TargetsUnlisted listed c d (bitAnd tw accepting) (bitXor tw (bitAnd tw accepting)) x)
       (low : (t : ℕ) → t < maxStates → bit (bitAnd tw accepting) t ≡ true → bit (listedIn listed c) t ≡ listedWith work lowered n t)
       (high : (t : ℕ) → t < maxStates → bit (bitXor tw (bitAnd tw accepting)) t ≡ true
       → bit (listedIn listed d) t ≡ listedWith work others n t) where
@@ -306,8 +306,8 @@ module _ (work nexts listed : List ℕ) (n : ℕ) (J : Joined work nexts listed 
           unlisted = λ t h. left-target t h .1;
         }
 
-pub counters-long : (tops : List ℕ) (visits : ℕ) (xs : List ℕ) → length (countersFrom tops visits xs) ≡ maxStates
-unfolding countersFrom
+pub counters-long : (tops : List ℕ) (visits : ℕ) (xs : List ℕ) → length (steppedCounters tops visits xs) ≡ maxStates
+unfolding steppedCounters
 counters-long tops visits xs = length-table _ maxStates 0
 
 -- What is kept.

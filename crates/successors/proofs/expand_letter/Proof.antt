@@ -1,4 +1,4 @@
--- `letters::expand_letter` meets its contract: the targets that are listed with a kept class can be left out, and those that are left have the counters
+-- `successors::expand_letter` meets its contract: the targets that are listed with a kept class can be left out, and those that are left have the counters
 -- and the classes of their side. Assumes nothing.
 use mathlib.Core.Path.{_≡_, refl, sym, _∙_, ap, subst}
 use mathlib.Core.List.{List}
@@ -9,12 +9,12 @@ use lib.Bits.{bitAnd, bitXor}
 use lib.ListN.{length, getD, length-set}
 use Rattle.automaton.specs.Sets.{bit}
 use Rattle.automaton.proofs.Bits.{bit-zero}
-use Rattle.step.specs.Steps.{countersFrom}
+use Rattle.step.specs.Steps.{steppedCounters}
 use Rattle.classes.proofs.ListedStates.{class-listed}
 use Rattle.discovery.proofs.LeftTargets.{grows-none}
-use Rattle.letters.proofs.LetterSteps.{rows-fit, Lowered, Others, Known, known-small, after-known, after-class, none-left-low, none-left-other, left-over, sides-ready, counters-long, kept-low, kept-other, kept-places, kept-both, letter-done, letter-listed}
-use Rattle.letters.proofs.expand_letter.Statement.{statement}
-use Rattle.letters.proofs.expand_letter.Tie as tie
+use Rattle.successors.proofs.LetterSteps.{rows-fit, Lowered, Others, Known, known-small, after-known, after-class, none-left-low, none-left-other, left-over, sides-ready, counters-long, kept-low, kept-other, kept-places, kept-both, letter-done, letter-listed}
+use Rattle.successors.proofs.expand_letter.Statement.{statement}
+use Rattle.successors.proofs.expand_letter.Tie as tie
 
 row-requires : tie.Need-row-requires
 row-requires c κs = search needs
@@ -51,8 +51,8 @@ other-known : (c : tie.Start) → Known (c .args .work .now)
     (getD (c .args .kept .now) (c .args .at + 1) 0)
 other-known c = kept-other _ _ _ _ _ (c .args .kept .now) (c .args .at) _ _ (c .pre .10)
 
-targets-left-requires : tie.Need-targets-left-requires
-targets-left-requires c κs =
+targets-unlisted-requires : tie.Need-targets-unlisted-requires
+targets-unlisted-requires c κs =
     let s = (c .before .before .before .before .before .before .before .before .before .before .before) in
     let l = known-small _ _ _ _ (low-known s) in
     let o = known-small _ _ _ _ (other-known s) in
@@ -68,7 +68,7 @@ returns c =
     let s = (c .before .before .before .before .before .before .before .before .before .before .before .before .before) in
     let a = s .args in
     let t = c .before .before .before .before .before .before .row in
-    let x = c .before .targets-left in
+    let x = c .before .targets-unlisted in
     let lowered = Lowered (a .tops .now) (a .masks .now) (a .rules .states) (a .letter) (a .counters .now) in
     let others = Others (a .tops .now) (a .masks .now) (a .rules .states) (a .letter) (a .counters .now) in
     let lows = getD (a .kept .now) (a .at) 0 in
@@ -105,11 +105,11 @@ sides-of-requires c κs = let s = (c .before .before .before .before .before .be
 -- the counters of both sides, and what is known of their classes
 low-is : (c : tie.After-counters-after) → c .counters-after .result
     ≡ Lowered (c .before .before .before .before .before .before .before .before .before .before .before .before .before .before .before .args .tops .now) (c .before .before .before .before .before .before .before .before .before .before .before .before .before .before .before .args .masks .now) (c .before .before .before .before .before .before .before .before .before .before .before .before .before .before .before .args .rules .states) (c .before .before .before .before .before .before .before .before .before .before .before .before .before .before .before .args .letter) (c .before .before .before .before .before .before .before .before .before .before .before .before .before .before .before .args .counters .now)
-low-is c = c .counters-after .ensures ∙ ap (countersFrom (c .before .before .before .before .before .before .before .before .before .before .before .before .before .before .before .args .tops .now) 1) (c .before .largest-into .ensures)
+low-is c = c .counters-after .ensures ∙ ap (steppedCounters (c .before .before .before .before .before .before .before .before .before .before .before .before .before .before .before .args .tops .now) 1) (c .before .largest-into .ensures)
 
 other-is : (c : tie.After-counters-after2) → c .counters-after2 .result
     ≡ Others (c .before .before .before .before .before .before .before .before .before .before .before .before .before .before .before .before .args .tops .now) (c .before .before .before .before .before .before .before .before .before .before .before .before .before .before .before .before .args .masks .now) (c .before .before .before .before .before .before .before .before .before .before .before .before .before .before .before .before .args .rules .states) (c .before .before .before .before .before .before .before .before .before .before .before .before .before .before .before .before .args .letter) (c .before .before .before .before .before .before .before .before .before .before .before .before .before .before .before .before .args .counters .now)
-other-is c = c .counters-after2 .ensures ∙ ap (countersFrom (c .before .before .before .before .before .before .before .before .before .before .before .before .before .before .before .before .args .tops .now) 0) (c .before .before .largest-into .ensures)
+other-is c = c .counters-after2 .ensures ∙ ap (steppedCounters (c .before .before .before .before .before .before .before .before .before .before .before .before .before .before .before .before .args .tops .now) 0) (c .before .before .largest-into .ensures)
 
 low-class : (c : tie.After-sides-of) → Known (c .before .before .before .before .before .before .before .before .before .before .before .before .before .before .before .before .before .before .before .before .before .before .args .work .now) (c .before .before .before .before .before .before .before .counters-after .result) (c .before .before .before .before .before .before .before .before .before .before .before .before .before .before .before .before .before .before .before .before .before .before .args .n)
     (c .sides-of .result .lowclass)
@@ -159,8 +159,8 @@ mul-kept-2 c = mul-other-kept (c .before .before .before .before .before .before
 slice-write-kept-2 : tie.Need-slice-write-kept-2
 slice-write-kept-2 c = omega (arith, c .before .before .before .before .before .before .before .before .before .before .before .before .before .before .before .before .before .before .before .before .before .before .pre .8, length-set (c .before .before .before .before .before .before .before .before .before .before .before .before .before .before .before .before .before .before .before .before .before .before .args .kept .now) (c .before .before .before .before .before .before .before .before .before .before .before .before .before .before .before .before .before .before .before .before .before .before .args .at) (c .sides-of .result .lowclass))
 
-targets-left-requires-2 : tie.Need-targets-left-requires-2
-targets-left-requires-2 c κs =
+targets-unlisted-requires-2 : tie.Need-targets-unlisted-requires-2
+targets-unlisted-requires-2 c κs =
     let e = c .before .before .before .before .before .before .before .before .before .before .before .before .before .before .before .before .before .before .before .before .before .before .before .pre .0 .index .joined .listed-long in
     (omega (arith, low-small (c .before)), omega (arith, other-small (c .before)))
 
@@ -172,7 +172,7 @@ discover-targets-requires c κs =
     let s = (c .before .before .before .before .before .before .before .before .before .before .before .before .before .before .before .before .before .before .before .before .before .before .before .before .before .before .before .before .before .before) in
     let a = s .args in
     let t = c .before .before .before .before .before .before .before .before .before .before .before .before .before .before .before .before .before .before .before .before .before .before .before .row in
-    let x = c .before .before .before .before .before .before .targets-left2 in
+    let x = c .before .before .before .before .before .before .targets-unlisted2 in
     let v = c .before .before .before .before .before .before .before .before .sides-of in
     let L = c .before .before .before .before .before .before .before .before .before .before .before .before .before .before .before .counters-after in
     let O = c .before .before .before .before .before .before .before .before .before .before .before .before .before .before .counters-after2 in
@@ -213,7 +213,7 @@ returns-2 c =
     let s = (c .before .before .before .before .before .before .before .before .before .before .before .before .before .before .before .before .before .before .before .before .before .before .before .before .before .before .before .before .before .before .before .before .before .before .before .before .before .before .before) in
     let a = s .args in
     let t = c .before .before .before .before .before .before .before .before .before .before .before .before .before .before .before .before .before .before .before .before .before .before .before .before .before .before .before .before .before .before .before .before .row in
-    let x = c .before .before .before .before .before .before .before .before .before .before .before .before .before .before .before .targets-left2 in
+    let x = c .before .before .before .before .before .before .before .before .before .before .before .before .before .before .before .targets-unlisted2 in
     let v = c .before .before .before .before .before .before .before .before .before .before .before .before .before .before .before .before .before .sides-of in
     let L = c .before .before .before .before .before .before .before .before .before .before .before .before .before .before .before .before .before .before .before .before .before .before .before .before .counters-after in
     let O = c .before .before .before .before .before .before .before .before .before .before .before .before .before .before .before .before .before .before .before .before .before .before .before .counters-after2 in
@@ -258,7 +258,7 @@ expand-letter-spec =
     mul-other-kept
     slice-read-other-kept
     cast-other-kept
-    targets-left-requires
+    targets-unlisted-requires
     same-length
     returns
     largest-into-requires
@@ -272,7 +272,7 @@ expand-letter-spec =
     add-kept
     mul-kept-2
     slice-write-kept-2
-    targets-left-requires-2
+    targets-unlisted-requires-2
     cast-discover-targets
     discover-targets-requires
     same-length-2

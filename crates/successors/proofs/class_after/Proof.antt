@@ -1,9 +1,9 @@
--- `letters::class_after` meets its contract: where there is no target it is the class that is kept, and else that of the counters. Assumes nothing.
+-- `successors::class_after` meets its contract: where there is no target it is the class that is kept, and else that of the counters. Assumes nothing.
 use mathlib.Core.Path.{sym, _∙_}
 use borrow.Author.Needs.{needs}
 use borrow.Author.Tests.{eq-eqb, ne-eqb}
-use Rattle.letters.proofs.class_after.Statement.{statement}
-use Rattle.letters.proofs.class_after.Tie as tie
+use Rattle.successors.proofs.class_after.Statement.{statement}
+use Rattle.successors.proofs.class_after.Tie as tie
 
 returns : tie.Need-returns
 returns c = rw (eq-eqb _ 0 (c .if1 .taken))

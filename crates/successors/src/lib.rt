@@ -17,8 +17,8 @@ ghost use Rattle.graph.specs.LagGraph.{successor, lagGraph};
 ghost use Rattle.step.specs.Masks.{rowPlace};
 ghost use Rattle.step.specs.Steps.{PresentOf};
 ghost use Rattle.discovery.specs.Representation.{vertexOf, Becomes, Ready, ReadyAfter, Grows};
-ghost use Rattle.letters.specs.Rules.{RulesOf};
-ghost use Rattle.letters.specs.Targets.{TargetsLeft};
+ghost use Rattle.successors.specs.Rules.{RulesOf};
+ghost use Rattle.successors.specs.Targets.{TargetsUnlisted};
 ghost use Rattle.kept.specs.Kept.{KeptStep};
 use discovery::Sides;
 use discovery::Walked;
@@ -89,9 +89,9 @@ fn sides_of(
 }
 
 // The targets of both sides that are not listed with the class of their side.
-fn targets_left(listed: &[u32], lowclass: usize, otherclass: usize, low: u32, other: u32) -> u32
+fn targets_unlisted(listed: &[u32], lowclass: usize, otherclass: usize, low: u32, other: u32) -> u32
     requires { ⌜ (lowclass ≤ length (now listed)) × (otherclass ≤ length (now listed)) ⌝ }
-    ensures { λ r. ⌜ TargetsLeft (now (listed .entry)) lowclass otherclass low other r ⌝ }
+    ensures { λ r. ⌜ TargetsUnlisted (now (listed .entry)) lowclass otherclass low other r ⌝ }
 {
     classes::unlisted(listed, lowclass, low) | classes::unlisted(listed, otherclass, other)
 }
@@ -145,7 +145,7 @@ pub fn expand_letter(
     let other = targets ^ low;
     let low_kept = kept[at] as usize;
     let other_kept = kept[at + 1] as usize;
-    if targets_left(listed, low_kept, other_kept, low, other) == 0 {
+    if targets_unlisted(listed, low_kept, other_kept, low, other) == 0 {
         return Walked::Going(n);
     }
     let largest = step::largest_into(masks, rules.states, letter, count, places, counters);
@@ -167,7 +167,7 @@ pub fn expand_letter(
     let otherclass = sides.otherclass;
     kept[at] = lowclass as u16;
     kept[at + 1] = otherclass as u16;
-    let unlisted = targets_left(listed, lowclass, otherclass, low, other);
+    let unlisted = targets_unlisted(listed, lowclass, otherclass, low, other);
     discovery::discover_targets(
         work,
         heads,
