@@ -1,7 +1,7 @@
 -- Refusals 1 to 5 in the terms of their table, without the reader (01, "The file" and the table): the file's records fit up to a place, and the
 -- record there has the fault.
 --   Front              what stands before a place: nothing, or a header (states, letters, initial state) and records past it
---   FrontFits               that header is in range, and these records are within it and distinct
+--   FrontFits          that header is in range, and these records are within it and distinct
 --   Marks              the marks known at a place, with their number of fields: the header's at the start, the others past it
 --   Ends, BadMark      conditions 1 and 2 of the bytes l from a place on
 --   Fault F l n        the record at the start of l, after F, has fault n

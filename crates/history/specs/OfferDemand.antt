@@ -2,7 +2,7 @@
 -- entry, word and every byte of work hold for each answer, 10 and 11 of each walk included.
 --   OfferListed S room x   no other answer x occurs with S slots and room for so many letters; a word is no longer than the place of its final
 --                          vertex
---   AfterOffer x ..       entry, work and word after the answer x; H is the held automaton, B the offer. Both walks write from the
+--   AfterOffer x ..        entry, work and word after the answer x; H is the held automaton, B the offer. Both walks write from the
 --                          start of the work buffer, so the back walk's slots stand over the forward walk's
 -- Shown by `offer-demand-1`. Assumes nothing.
 use mathlib.Core.Path.{_≡_}
