@@ -13,10 +13,10 @@ use lib.Dec.{eqb, ltb}
 use lib.Pow.{pow-add, shl-shr, shr-shr}
 use borrow.Author.Tests.{lt-ltb, le-ltb}
 use Rattle.automaton.specs.declared.Automaton.{Automaton}
-use Rattle.automaton.specs.Ranges.{some, those, total}
+use Rattle.automaton.specs.Ranges.{some, nextFrom, those, total}
 use Rattle.automaton.specs.Sets.{bit, leastMember}
 use Rattle.automaton.specs.Automata.{transition, targets, one, transitionCount}
-use Rattle.automaton.specs.Members.{transitionIn, nextFrom, countFrom}
+use Rattle.automaton.specs.Members.{transitionIn, countFrom}
 use Rattle.automaton.proofs.Booleans.{clash}
 
 -- what does not change from k to k + 1, for the k from i to below j, is the same at i and j
@@ -120,27 +120,22 @@ least-holds w h = rw least-next (next-holds (bit w) 8 0 (rw least-next at h))
 pub least-before : (w k : ℕ) → k < leastMember w → bit w k ≡ false
 least-before w k h = next-before (bit w) 8 0 k (omega arith) (rw least-next at h)
 
--- The next member from i on is found byte by byte. Byte b holds the numbers from b * 8 on, i among them; v is that byte with the
--- bits below i cleared, and n its least member.
+-- The next member is found byte by byte: v is the byte of the numbers from b * 8 on, and n its least member.
 
-module _ (f : ℕ → Bool) (b i v n : ℕ) (low : b * 8 ≤ i) (least : n ≡ leastMember v)
-    (clear : (k : ℕ) → b * 8 + k < i → bit v k ≡ false)
-    (in-byte : (k : ℕ) → i ≤ b * 8 + k → k < 8 → f (b * 8 + k) ≡ bit v k) where
-  none-before : (j : ℕ) → i ≤ j → j < b * 8 + 8 → j < b * 8 + n → f j ≡ false
+module _ (f : ℕ → Bool) (b v n : ℕ) (least : n ≡ leastMember v) (in-byte : (k : ℕ) → k < 8 → f (b * 8 + k) ≡ bit v k) where
+  none-before : (j : ℕ) → b * 8 ≤ j → j < b * 8 + 8 → j < b * 8 + n → f j ≡ false
   none-before j h u l = go (j - b * 8) (omega arith)
     where
       go : (k : ℕ) → j ≡ b * 8 + k → f j ≡ false
-      go k e = ap f e ∙ in-byte k (omega arith) (omega arith) ∙ least-before v k (omega arith)
+      go k e = ap f e ∙ in-byte k (omega arith) ∙ least-before v k (omega arith)
 
-  pub next-in-byte : (m : ℕ) → b * 8 + 8 ≤ m → n < 8 → nextFrom f (m - i) i ≡ b * 8 + n
+  pub next-in-byte : (m : ℕ) → b * 8 + 8 ≤ m → n < 8 → nextFrom f (m - b * 8) (b * 8) ≡ b * 8 + n
   next-in-byte m h l =
-      let e : bit v n ≡ true = rw least (least-holds v (rw least at l)) in
-      let g : i < suc (b * 8 + n) = lt-of-not-le (λ q. clash e (clear n q)) in
-      next-is f m i (b * 8 + n) (omega arith) (omega arith) (in-byte n (omega arith) l ∙ e)
+      next-is f m (b * 8) (b * 8 + n) (omega arith) (omega arith) (in-byte n l ∙ rw least (least-holds v (rw least at l)))
       (λ j p q. none-before j p (omega arith) q)
 
-  pub next-past-byte : (m j : ℕ) → j ≡ b * 8 + 8 → i ≤ j → j ≤ m → 8 ≤ n → nextFrom f (m - i) i ≡ nextFrom f (m - j) j
-  next-past-byte m j d g h l = next-skip f m i j g h (λ k p q. none-before k p (omega arith) (omega arith))
+  pub next-past-byte : (m j : ℕ) → j ≡ b * 8 + 8 → j ≤ m → 8 ≤ n → nextFrom f (m - b * 8) (b * 8) ≡ nextFrom f (m - j) j
+  next-past-byte m j d h l = next-skip f m (b * 8) j (omega arith) h (λ k p q. none-before k p (omega arith) (omega arith))
 
 -- Loops over a range of m numbers: at i the numbers below i are done, and the rest starts at i.
 

@@ -2,7 +2,6 @@
 -- Shown by `transition-bit`, `targets-bits` and `count-bits`: of an automaton's own bytes and header they are the members and transitions of
 -- `Automata`.
 --   transitionIn t q a r   the bit for the transition from q on letter a to r in the bytes t
---   nextFrom f n i         the least of the n numbers from i on at which f holds; i + n where there is none
 --   withMember s q         the bytes s with the bit for state q set
 --   withBitFor t q a r     the bytes t with the bit for the transition set
 --   targetCount t n q a    the number of targets of q on letter a among n states
@@ -23,10 +22,6 @@ use Rattle.automaton.specs.Automata.{maxStates, maxLetters, place, one}
 
 abbrev pub transitionIn : List ℕ → ℕ → ℕ → ℕ → Bool
 transitionIn t q a r = bit (getD t (place q a r) 0) (r % 8)
-
-unfoldable pub nextFrom : (ℕ → Bool) → ℕ → ℕ → ℕ
-nextFrom f zero i = i
-nextFrom f (suc n) i = elim (f i) [ true ↦ i | false ↦ nextFrom f n (suc i) ]
 
 abbrev pub withMember : List ℕ → ℕ → List ℕ
 withMember s q = set s (q / 8) (withBit (getD s (q / 8) 0) (q % 8))

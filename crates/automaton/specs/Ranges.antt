@@ -1,11 +1,12 @@
--- Tests, lists, sums and largest values over the n numbers from i on: what the definitions of the other files go through states, letters and
+-- Tests, members, lists, sums and largest values over the n numbers from i on: what the definitions of the other files go through states, letters and
 -- places with.
 --   some f n i      f holds at one of them
+--   nextFrom f n i  the least of them at which f holds; the number after them where there is none
 --   those f n i     those of them at which f holds, lowest first
 --   table f n i     f of each of them
 --   largest f n i   the largest value of f at them; of none it is 0
 --   total f n i     the sum of f over them
--- Shown by `some-at` and `some-below`, `those-has` and `those-pass`, `table-at`, `largest-ub` and `largest-at`. Assumes nothing.
+-- Shown by `some-at` and `some-below`, `next-holds` and `next-before`, `those-has` and `those-pass`, `table-at`, `largest-ub` and `largest-at`. Assumes nothing.
 use mathlib.Core.Bool.{Bool, true, false, _||_}
 use mathlib.Core.List.{List, [], _∷_}
 use Prim.Native.Nat.{ℕ, zero, suc, _+_, max}
@@ -13,6 +14,10 @@ use Prim.Native.Nat.{ℕ, zero, suc, _+_, max}
 unfoldable pub some : (ℕ → Bool) → ℕ → ℕ → Bool
 some f zero i = false
 some f (suc n) i = f i || some f n (suc i)
+
+unfoldable pub nextFrom : (ℕ → Bool) → ℕ → ℕ → ℕ
+nextFrom f zero i = i
+nextFrom f (suc n) i = elim (f i) [ true ↦ i | false ↦ nextFrom f n (suc i) ]
 
 unfoldable pub those : (ℕ → Bool) → ℕ → ℕ → List ℕ
 those f zero i = []

@@ -3,18 +3,17 @@
 --   withBit w i     w with bit i set
 --   member S q      state q is in the set S: bit q % 8 of byte q / 8
 --   leastMember w   the lowest bit of a byte that is set; of 0 it is 8
---   leastMembers    the least member of each byte, in a table
 --   Bytes n s       s are n bytes
--- Shown by `least-holds` and `least-before`: the least member is a member, and none is lower; that the code's table is this one, by the
--- contract of `least_members`. Assumes nothing.
+-- Shown by `least-holds` and `least-before`: the least member is a member, and none is lower; by `trailing-least`: it is the number of zeros at
+-- the end of the byte's eight binary digits, which the code counts (02, S-3); by `least-ends`: its values at 0, 1, 96 and 128. Assumes nothing.
 use mathlib.Core.Path.{_≡_}
-use mathlib.Core.Bool.{Bool, true, false}
+use mathlib.Core.Bool.{Bool}
 use mathlib.Core.List.{List}
-use Prim.Native.Nat.{ℕ, zero, suc, _/_, _%_, _^_, _<_}
+use Prim.Native.Nat.{ℕ, _/_, _%_, _^_, _<_}
 use lib.Dec.{eqb}
 use lib.Bits.{bitOr}
 use lib.ListN.{length, getD}
-use Rattle.automaton.specs.Ranges.{table}
+use Rattle.automaton.specs.Ranges.{nextFrom}
 
 abbrev pub bit : ℕ → ℕ → Bool
 bit w i = eqb (w / 2 ^ i % 2) 1
@@ -25,16 +24,8 @@ withBit w i = bitOr w (2 ^ i)
 abbrev pub member : List ℕ → ℕ → Bool
 member S q = bit (getD S (q / 8) 0) (q % 8)
 
--- the first of the n numbers from i on whose bit is set, and the number after them where there is none
-abbrev pub leastFrom : ℕ → ℕ → ℕ → ℕ
-leastFrom w zero i = i
-leastFrom w (suc n) i = elim (bit w i) [ true ↦ i | false ↦ leastFrom w n (suc i) ]
-
 unfoldable pub leastMember : ℕ → ℕ
-leastMember w = leastFrom w 8 0
-
-unfoldable pub leastMembers : List ℕ
-leastMembers = table leastMember 256 0
+leastMember w = nextFrom (bit w) 8 0
 
 -- so many bytes, each below 256
 pub record Bytes (n : ℕ) (s : List ℕ) : Type 0 where

@@ -9,7 +9,6 @@ pub use sets::accepts_in;
 pub use sets::add_member;
 pub use sets::has_bit;
 pub use sets::least_member;
-pub use sets::least_members;
 pub use sets::power;
 pub use sets::wide;
 pub use sets::with_bit;

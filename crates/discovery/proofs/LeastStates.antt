@@ -10,9 +10,8 @@ use borrow.Author.Tests.{eq-eqb, ne-eqb, eqb-true}
 use lib.Bits.{bitXor}
 use lib.Dec.{T, eqb}
 use lib.Pow.{shr-shr}
-use Rattle.automaton.specs.Ranges.{some, those}
+use Rattle.automaton.specs.Ranges.{some, nextFrom, those}
 use Rattle.automaton.specs.Sets.{bit, withBit, leastMember}
-use Rattle.automaton.specs.Members.{nextFrom}
 use Rattle.automaton.proofs.Booleans.{T-true, is-true, clash}
 use Rattle.automaton.proofs.Ranges.{some-below}
 use Rattle.automaton.proofs.Members.{next-before, next-holds, next-end, next-in-byte, next-past-byte, those-same}
@@ -32,13 +31,11 @@ bit-in-byte w b k h =
 module _ (w b m : ℕ) (inside : b < 4) (least : m ≡ leastMember (w / 2 ^ (b * 8) % 256)) where
   pub least-in-byte : m < 8 → nextFrom (bit w) (32 - b * 8) (b * 8) ≡ b * 8 + m
   least-in-byte l =
-      next-in-byte (bit w) b (b * 8) (w / 2 ^ (b * 8) % 256) m (omega arith) least (λ k h. absurd (omega arith))
-      (λ k h g. bit-in-byte w b k g) 32 (omega arith) l
+      next-in-byte (bit w) b (w / 2 ^ (b * 8) % 256) m least (bit-in-byte w b) 32 (omega arith) l
 
   pub least-past-byte : 8 ≤ m → nextFrom (bit w) (32 - b * 8) (b * 8) ≡ nextFrom (bit w) (32 - (b + 1) * 8) ((b + 1) * 8)
   least-past-byte l =
-      next-past-byte (bit w) b (b * 8) (w / 2 ^ (b * 8) % 256) m (omega arith) least (λ k h. absurd (omega arith))
-      (λ k h g. bit-in-byte w b k g) 32 ((b + 1) * 8) (omega arith) (omega arith) (omega arith) l
+      next-past-byte (bit w) b (w / 2 ^ (b * 8) % 256) m least (bit-in-byte w b) 32 ((b + 1) * 8) (omega arith) (omega arith) l
 
 pub least-end : (w b : ℕ) → b ≤ 4 → 4 ≤ b → nextFrom (bit w) (32 - b * 8) (b * 8) ≡ 32
 least-end w b l h = next-end (bit w) 32 (b * 8) (omega arith)

@@ -8,9 +8,8 @@ ghost use lib.Dec.{eqb};
 ghost use lib.ListN.{length};
 ghost use Rattle.automaton.specs.declared.Automaton.{Automaton};
 ghost use Rattle.automaton.specs.Automata.{maxStates};
-ghost use Rattle.automaton.specs.Ranges.{those};
-ghost use Rattle.automaton.specs.Members.{nextFrom};
-ghost use Rattle.automaton.specs.Sets.{bit, leastMembers};
+ghost use Rattle.automaton.specs.Ranges.{nextFrom, those};
+ghost use Rattle.automaton.specs.Sets.{bit};
 ghost use Rattle.slots.specs.Slots.{slotCount};
 ghost use Rattle.classes.specs.Classes.{classOf, keyOf, keys, Chained};
 ghost use Rattle.graph.specs.Discovery.{below, discover as discovering, discoverAll};
@@ -35,14 +34,13 @@ pub struct Sides {
     pub otherclass: usize,
 }
 
-// The least state of a set, by the table of least members; 32 where there is none.
-fn least(table: &[u8; 256], set: u32) -> usize
-    requires { ⌜ now table ≡ leastMembers ⌝ }
+// The least state of a set, which is looked for byte by byte; 32 where there is none.
+fn least(set: u32) -> usize
     ensures { λ r. ⌜ r ≡ nextFrom (bit set) maxStates 0 ⌝ }
 {
     let mut b: usize = 0;
     while b < 4 {
-        let m = automaton::least_member(table, ((set >> (b * 8)) % 256) as u8);
+        let m = automaton::least_member(((set >> (b * 8)) % 256) as u8);
         if m < 8 {
             return b * 8 + m;
         }
@@ -199,10 +197,9 @@ pub fn discover_targets<'a>(
     lowered: &'a [u8; 32],
     others: &'a [u8; 32],
     sides: Sides,
-    table: &[u8; 256],
 ) -> Walked
     requires { ⌜
-        Ready (now work) (now heads) (now nexts) (now listed) n × (p < 65536) × (now table ≡ leastMembers)
+        Ready (now work) (now heads) (now nexts) (now listed) n × (p < 65536)
         × SidesReady (now work) n accepting targets (now lowered) (now others) sides
         ⌝ }
     ensures represents { λ r. ⌜
@@ -216,7 +213,7 @@ pub fn discover_targets<'a>(
     let mut rest = targets;
     let mut count = n;
     while rest != 0 {
-        let t = least(table, rest);
+        let t = least(rest);
         rest = without(rest, t);
         let seen = discover_target(
             work,

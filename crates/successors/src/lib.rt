@@ -9,7 +9,6 @@ ghost use lib.Dec.{eqb};
 ghost use lib.ListN.{length, getD};
 ghost use Rattle.automaton.specs.declared.Automaton.{Automaton};
 ghost use Rattle.automaton.specs.Automata.{maxStates, maxLetters, targets};
-ghost use Rattle.automaton.specs.Sets.{leastMembers};
 ghost use Rattle.slots.specs.Slots.{slotCount};
 ghost use Rattle.classes.specs.Classes.{classOf, keyOf, keys, Chained};
 ghost use Rattle.graph.specs.Discovery.{below, discoverAll};
@@ -116,12 +115,11 @@ pub fn expand_letter(
     places: &[u8; 32],
     letter: usize,
     at: usize,
-    table: &[u8; 256],
 ) -> Walked
     requires { ⌜
         Ready (now work) (now heads) (now nexts) (now listed) n × (p < 65536) × (left < maxStates) × (letter < rules .letters)
         × (rules .letters ≤ maxLetters) × (rules .states ≤ maxStates) × (rowPlace (rules .states) (rules .letters) 0 ≤ length (now masks))
-        × PresentOf count (now places) (now counters) (rules .states) × (at + 2 ≤ length (now kept)) × (now table ≡ leastMembers)
+        × PresentOf count (now places) (now counters) (rules .states) × (at + 2 ≤ length (now kept))
         × KeptStep (now tops) (now masks) (rules .states) (now work) n (now kept) at letter (now counters)
         ⌝ }
     ensures represents { λ r. ⌜
@@ -181,6 +179,5 @@ pub fn expand_letter(
         &lowered,
         &others,
         sides,
-        table,
     )
 }

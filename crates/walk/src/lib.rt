@@ -5,7 +5,6 @@ ghost use Prim.Native.Nat.{ℕ, _<_, _≤_};
 ghost use lib.ListN.{length};
 ghost use Rattle.automaton.specs.declared.Automaton.{Automaton};
 ghost use Rattle.automaton.specs.Automata.{maxStates, maxLetters, wholeOf, InRange};
-ghost use Rattle.automaton.specs.Sets.{leastMembers};
 ghost use Rattle.slots.specs.Slots.{slotCount, allZero};
 ghost use Rattle.slots.specs.Bytes.{Falls};
 ghost use Rattle.graph.specs.Discovery.{below, expand as expanding, expandAll as expandingAll};
@@ -36,11 +35,10 @@ fn expand(
     kept: &mut [u16],
     n: usize,
     p: usize,
-    table: &[u8; 256],
 ) -> Walked
     requires { ⌜
         Ready (now work) (now heads) (now nexts) (now listed) n × (p < n) × (rules .letters ≤ maxLetters) × (rules .states ≤ maxStates)
-        × (rowPlace (rules .states) (rules .letters) 0 ≤ length (now masks)) × (now table ≡ leastMembers)
+        × (rowPlace (rules .states) (rules .letters) 0 ≤ length (now masks))
         × KeptLines (now tops) (now masks) (rules .states) (now work) n (now owners) (now kept)
         ⌝ }
     ensures represents { λ r. ⌜
@@ -81,7 +79,6 @@ fn expand(
             &places,
             letter,
             line + letter * 2,
-            table,
         );
         let Walked::Going(m) = seen else {
             return seen;
@@ -103,11 +100,10 @@ fn expand_all(
     nexts: &mut [u16],
     listed: &mut [u32],
     n: usize,
-    table: &[u8; 256],
 ) -> Walked
     requires { ⌜
         Ready (now work) (now heads) (now nexts) (now listed) n × (rules .letters ≤ maxLetters) × (rules .states ≤ maxStates)
-        × (rowPlace (rules .states) (rules .letters) 0 ≤ length (now masks)) × (now table ≡ leastMembers)
+        × (rowPlace (rules .states) (rules .letters) 0 ≤ length (now masks))
         ⌝ }
     ensures { λ r. ⌜
         ((A B : Automaton) (b : ℕ) → RulesOf rules (now (tops .entry)) (now (lefts .entry)) (now (masks .entry)) A B b
@@ -132,7 +128,6 @@ fn expand_all(
             &mut kept,
             count,
             p,
-            table,
         );
         let Walked::Going(m) = seen else {
             return seen;
@@ -180,7 +175,6 @@ fn walk_from(
         key,
         0,
     );
-    let table = automaton::least_members();
     expand_all(
         rules,
         tops,
@@ -191,7 +185,6 @@ fn walk_from(
         &mut nexts,
         &mut listed,
         1,
-        &table,
     )
 }
 

@@ -17,14 +17,14 @@ use Rattle.discovery.proofs.discover_targets.Statement.{statement}
 use Rattle.discovery.proofs.discover_targets.Tie as tie
 
 abbrev Inv-loop : tie.InvT-loop
-Inv-loop work₀ heads₀ nexts₀ listed₀ n p letter accepting targets lowered others sides table rest₀ count₀ work heads nexts listed rest count =
+Inv-loop work₀ heads₀ nexts₀ listed₀ n p letter accepting targets lowered others sides rest₀ count₀ work heads nexts listed rest count =
     (rest < 2 ^ 32) × (length work ≡ length work₀) × (length heads ≡ length heads₀) × (length nexts ≡ length nexts₀) × (length listed ≡ length listed₀)
     × Ready work heads nexts listed count × Grows work₀ n work (Going count)
     × TargetsReady n accepting lowered others sides work count rest
     × TargetsToGo letter accepting lowered others p work₀ n targets work count rest
 
 abbrev μ-loop : tie.MeasureT-loop
-μ-loop work₀ heads₀ nexts₀ listed₀ n p letter accepting targets lowered others sides table rest₀ count₀ work heads nexts listed rest count =
+μ-loop work₀ heads₀ nexts₀ listed₀ n p letter accepting targets lowered others sides rest₀ count₀ work heads nexts listed rest count =
     length (those (bit rest) maxStates 0)
 
 loop-holds : tie.Need-loop-holds Inv-loop μ-loop
@@ -38,12 +38,12 @@ loop-holds c =
       refl,
       s .pre .0,
       grows-none (a .work .now) (a .n),
-      targets-ready (a .n) (a .accepting) (a .lowered .now) (a .others .now) (a .sides) (a .work .now) (a .targets) (s .pre .3),
+      targets-ready (a .n) (a .accepting) (a .lowered .now) (a .others .now) (a .sides) (a .work .now) (a .targets) (s .pre .2),
       λ A B b start ns S. (ns, S, refl),
     )
 
 least-requires : tie.Need-least-requires Inv-loop μ-loop
-least-requires c κs = c .before .before .before .before .before .before .pre .2
+least-requires c κs = search needs
 
 without-requires : tie.Need-without-requires Inv-loop μ-loop
 without-requires c κs =

@@ -3,17 +3,17 @@ use mathlib.Core.Path.{_≡_, refl, sym, _∙_}
 use Prim.Native.Nat.{_*_, _-_, _≤_}
 use native.Mathlib.Omega.{arith}
 use borrow.Author.Needs.{needs}
+use Rattle.automaton.specs.Ranges.{nextFrom}
 use Rattle.automaton.specs.Sets.{bit}
-use Rattle.automaton.specs.Members.{nextFrom}
 use Rattle.discovery.proofs.LeastStates.{least-in-byte, least-past-byte, least-end}
 use Rattle.discovery.proofs.least.Statement.{statement}
 use Rattle.discovery.proofs.least.Tie as tie
 
 abbrev Inv-loop : tie.InvT-loop
-Inv-loop table set b₀ b = (b ≤ 4) × (nextFrom (bit set) 32 0 ≡ nextFrom (bit set) (32 - b * 8) (b * 8))
+Inv-loop set b₀ b = (b ≤ 4) × (nextFrom (bit set) 32 0 ≡ nextFrom (bit set) (32 - b * 8) (b * 8))
 
 abbrev μ-loop : tie.MeasureT-loop
-μ-loop table set b₀ b = 4 - b
+μ-loop set b₀ b = 4 - b
 
 loop-holds : tie.Need-loop-holds Inv-loop μ-loop
 loop-holds c = (omega arith, refl)

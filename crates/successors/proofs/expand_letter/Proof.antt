@@ -44,12 +44,12 @@ cast-other-kept c = omega (arith, c .slice-known7 .given (c .before .before .bef
 low-known : (c : tie.Start) → Known (c .args .work .now)
     (Lowered (c .args .tops .now) (c .args .masks .now) (c .args .rules .states) (c .args .letter) (c .args .counters .now)) (c .args .n)
     (getD (c .args .kept .now) (c .args .at) 0)
-low-known c = kept-low _ _ _ _ _ (c .args .kept .now) (c .args .at) _ _ (c .pre .10)
+low-known c = kept-low _ _ _ _ _ (c .args .kept .now) (c .args .at) _ _ (c .pre .9)
 
 other-known : (c : tie.Start) → Known (c .args .work .now)
     (Others (c .args .tops .now) (c .args .masks .now) (c .args .rules .states) (c .args .letter) (c .args .counters .now)) (c .args .n)
     (getD (c .args .kept .now) (c .args .at + 1) 0)
-other-known c = kept-other _ _ _ _ _ (c .args .kept .now) (c .args .at) _ _ (c .pre .10)
+other-known c = kept-other _ _ _ _ _ (c .args .kept .now) (c .args .at) _ _ (c .pre .9)
 
 targets-unlisted-requires : tie.Need-targets-unlisted-requires
 targets-unlisted-requires c κs =
@@ -85,7 +85,7 @@ returns c =
           (λ u l h. none-left-other (a .work .now) (a .nexts .now) (a .listed .now) (a .n) J others lows highs w v (x .result) u (other-known s) (x .ensures)
           (ap (λ (y : ℕ). bit y u) (c .if1 .taken) ∙ bit-zero u) l h))
           (c .if1 .taken),
-      (s .pre .0, (grows-none (a .work .now) (a .n), (s .pre .10, λ i h g. refl))),
+      (s .pre .0, (grows-none (a .work .now) (a .n), (s .pre .9, λ i h g. refl))),
     )
 
 largest-into-requires : tie.Need-largest-into-requires
@@ -179,7 +179,6 @@ discover-targets-requires c κs =
     let J = s .pre .0 .index .joined in (
       s .pre .0,
       s .pre .1,
-      s .pre .9,
       sides-ready (a .work .now) (a .nexts .now) (a .listed .now) (a .n) J (t .result) (a .rules .accepting) (t .ok) (L .result) (O .result)
           (v .result .lowclass) (v .result .otherclass) (x .result) (x .ensures)
           (λ u l h. class-listed (a .work .now) (a .nexts .now) (a .listed .now) (a .n) J (L .result) (v .result .lowclass) u

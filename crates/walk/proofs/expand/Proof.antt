@@ -18,7 +18,7 @@ use Rattle.walk.proofs.expand.Statement.{statement}
 use Rattle.walk.proofs.expand.Tie as tie
 
 abbrev Inv-loop : tie.InvT-loop
-Inv-loop rules tops lefts masks work₀ heads₀ nexts₀ listed₀ owners kept₀ n p table letters class line counters present places left count₀ letter₀ work heads nexts listed kept count letter =
+Inv-loop rules tops lefts masks work₀ heads₀ nexts₀ listed₀ owners kept₀ n p letters class line counters present places left count₀ letter₀ work heads nexts listed kept count letter =
     (letters ≡ rules .letters) × (letter ≤ letters) × (length work ≡ length work₀) × (length heads ≡ length heads₀)
     × (length nexts ≡ length nexts₀) × (length listed ≡ length listed₀) × (left < maxStates)
     × Ready work heads nexts listed count × KeptLines tops masks (rules .states) work count owners kept
@@ -26,7 +26,7 @@ Inv-loop rules tops lefts masks work₀ heads₀ nexts₀ listed₀ owners kept�
     × LettersToGo rules tops lefts masks (vertexOf left counters) p work₀ n work count letter
 
 abbrev μ-loop : tie.MeasureT-loop
-μ-loop rules tops lefts masks work₀ heads₀ nexts₀ listed₀ owners kept₀ n p table letters class line counters present places left count₀ letter₀ work heads nexts listed kept count letter =
+μ-loop rules tops lefts masks work₀ heads₀ nexts₀ listed₀ owners kept₀ n p letters class line counters present places left count₀ letter₀ work heads nexts listed kept count letter =
     letters - letter
 
 class-at-requires : tie.Need-class-at-requires Inv-loop μ-loop
@@ -41,8 +41,8 @@ line-of-requires c κs =
     let s = (c .before .before .before .before .before .before .before .before .before .before .before .before) in
     let a = s .args in
     let k = c .before .before .class-at in (
-      s .pre .6 .owners-long,
-      s .pre .6 .kept-long,
+      s .pre .5 .owners-long,
+      s .pre .5 .kept-long,
       omega (arith, class-small (a .work .now) (a .heads .now) (a .nexts .now) (a .listed .now) (a .n) (s .pre .0) (a .p) (s .pre .1) (k .result) (k .ensures)),
     )
 
@@ -65,7 +65,7 @@ loop-holds c =
     let e = v .ensures in
     let b =
     line-begins (a .work .now) (a .heads .now) (a .nexts .now) (a .listed .now) (a .n) (s .pre .0) (a .p) (s .pre .1) (k .result) (k .ensures)
-    (a .tops .now) (a .masks .now) (a .rules .states) (o .result) (a .owners .now) (a .kept .now) (o .last .0) (o .last .1 .0) (s .pre .6)
+    (a .tops .now) (a .masks .now) (a .rules .states) (o .result) (a .owners .now) (a .kept .now) (o .last .0) (o .last .1 .0) (s .pre .5)
     (o .ensures .0) (o .ensures .1 .0) (o .ensures .1 .1) in (
       refl,
       omega arith,
@@ -107,7 +107,6 @@ expand-letter-requires c κs =
       s .pre .4,
       i .10,
       place-fits (a .tops .now) (a .masks .now) (a .rules .states) (l .work) (l .count) _ _ _ _ (l .kept) (i .8) (i .9) (l .letter) few,
-      s .pre .5,
       line-step (a .tops .now) (a .masks .now) (a .rules .states) (l .work) (l .count) _ _ _ _ (l .kept) (i .8) (i .9) (l .letter) few,
     )
 
@@ -130,7 +129,7 @@ same-length-5 : tie.Need-same-length-5 Inv-loop μ-loop
 same-length-5 c = c .before .before .before .before .before .before .before .before .before .before .before .before .before .before .before .before .before .before .before .before .before .before .before .before .before .before .before .before .before .before .before .line-of .kept .0
 
 same-length-6 : tie.Need-same-length-6 Inv-loop μ-loop
-same-length-6 c = c .before .before .before .before .before .before .before .before .before .before .before .expand-letter .kept .1 .1 .1 .1 .1 .1 .1 .1 .0 ∙ c .before .before .before .before .before .before .before .before .before .before .before .before .before .before .before .before .before .before .before .before .loop .inv .8 .kept-long ∙ sym (c .before .before .before .before .before .before .before .before .before .before .before .before .before .before .before .before .before .before .before .before .before .before .before .before .before .before .before .before .before .before .before .before .before .before .before .before .before .before .before .before .before .before .before .before .pre .6 .kept-long)
+same-length-6 c = c .before .before .before .before .before .before .before .before .before .before .before .expand-letter .kept .1 .1 .1 .1 .1 .1 .1 .1 .0 ∙ c .before .before .before .before .before .before .before .before .before .before .before .before .before .before .before .before .before .before .before .before .loop .inv .8 .kept-long ∙ sym (c .before .before .before .before .before .before .before .before .before .before .before .before .before .before .before .before .before .before .before .before .before .before .before .before .before .before .before .before .before .before .before .before .before .before .before .before .before .before .before .before .before .before .before .before .pre .5 .kept-long)
 
 returns : tie.Need-returns Inv-loop μ-loop
 returns c =
@@ -194,7 +193,7 @@ same-length-11 : tie.Need-same-length-11 Inv-loop μ-loop
 same-length-11 c = c .before .before .before .before .before .before .before .before .before .before .before .before .line-of .kept .0
 
 same-length-12 : tie.Need-same-length-12 Inv-loop μ-loop
-same-length-12 c = c .before .loop .inv .8 .kept-long ∙ sym (c .before .before .before .before .before .before .before .before .before .before .before .before .before .before .before .before .before .before .before .before .before .before .before .before .before .pre .6 .kept-long)
+same-length-12 c = c .before .loop .inv .8 .kept-long ∙ sym (c .before .before .before .before .before .before .before .before .before .before .before .before .before .before .before .before .before .before .before .before .before .before .before .before .before .pre .5 .kept-long)
 
 returns-2 : tie.Need-returns-2 Inv-loop μ-loop
 returns-2 c =

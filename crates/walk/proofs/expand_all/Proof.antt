@@ -15,13 +15,13 @@ use Rattle.walk.proofs.expand_all.Statement.{statement}
 use Rattle.walk.proofs.expand_all.Tie as tie
 
 abbrev Inv-loop : tie.InvT-loop
-Inv-loop rules tops lefts masks work₀ heads₀ nexts₀ listed₀ n table owners₀ kept₀ count₀ p₀ work heads nexts listed owners kept count p =
+Inv-loop rules tops lefts masks work₀ heads₀ nexts₀ listed₀ n owners₀ kept₀ count₀ p₀ work heads nexts listed owners kept count p =
     (length work ≡ length work₀) × (length heads ≡ length heads₀) × (length nexts ≡ length nexts₀) × (length listed ≡ length listed₀)
     × Ready work heads nexts listed count × KeptLines tops masks (rules .states) work count owners kept
     × PlacesToGo rules tops lefts masks work₀ n work count p
 
 abbrev μ-loop : tie.MeasureT-loop
-μ-loop rules tops lefts masks work₀ heads₀ nexts₀ listed₀ n table owners₀ kept₀ count₀ p₀ work heads nexts listed owners kept count p =
+μ-loop rules tops lefts masks work₀ heads₀ nexts₀ listed₀ n owners₀ kept₀ count₀ p₀ work heads nexts listed owners kept count p =
     slotCount (length work₀) - p
 
 loop-holds : tie.Need-loop-holds Inv-loop μ-loop
@@ -47,7 +47,7 @@ expand-requires : tie.Need-expand-requires Inv-loop μ-loop
 expand-requires c κs =
     let s = (c .before .before .before .before .before .before .before .before .before .before .before .before .before) in
     let i = c .before .before .before .before .before .before .before .loop .inv in
-    (i .4, c .before .before .before .before .before .before .loop-test .taken, s .pre .1, s .pre .2, s .pre .3, s .pre .4, i .5)
+    (i .4, c .before .before .before .before .before .before .loop-test .taken, s .pre .1, s .pre .2, s .pre .3, i .5)
 
 enum-known-seen : tie.Need-enum-known-seen Inv-loop μ-loop
 enum-known-seen c = search needs

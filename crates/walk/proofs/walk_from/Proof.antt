@@ -33,9 +33,6 @@ append-requires c κs =
       sym (class-absent (s .args .work .now) (s .args .first .counters) 0 (λ r l. absurd (omega arith))),
     )
 
-least-members-requires : tie.Need-least-members-requires
-least-members-requires c κs = search needs
-
 slice-aggregate-expand-all : tie.Need-slice-aggregate-expand-all
 slice-aggregate-expand-all c = search needs
 
@@ -47,14 +44,13 @@ slice-aggregate-expand-all-3 c = search needs
 
 expand-all-requires : tie.Need-expand-all-requires
 expand-all-requires c κs =
-    let s = c .before .before .before .before .before .before .before .before .before .before .before .before .before .before .before .before .before .before .before .before .before in
-    let p = c .before .before .before .before .before .before .before .before .before .before .before .append in (
+    let s = c .before .before .before .before .before .before .before .before .before .before .before .before .before .before .before .before .before .before .before in
+    let p = c .before .before .before .before .before .before .before .before .before .append in (
       ready-first (s .args .first) (s .args .work .now) (p .last .0) (p .last .1 .0) (p .last .1 .1 .0) (p .last .1 .1 .1 .0) (s .pre .0) (s .pre .1)
           (s .pre .2) (s .pre .3) (p .ensures .0) (p .ensures .1 .1 .1 .1),
       s .pre .4,
       s .pre .5,
       s .pre .6,
-      c .before .before .before .before .before .least-members .ensures,
     )
 
 same-length : tie.Need-same-length
@@ -62,9 +58,9 @@ same-length c = search needs
 
 returns : tie.Need-returns
 returns c A B b R is =
-    let s = c .before .before .before .before .before .before .before .before .before .before .before .before .before .before .before .before .before .before .before .before .before .before .before .before .before .before .before in
+    let s = c .before .before .before .before .before .before .before .before .before .before .before .before .before .before .before .before .before .before .before .before .before .before .before .before .before in
     let a = s .args in
-    let p = c .before .before .before .before .before .before .before .before .before .before .before .before .before .before .before .before .before .append in
+    let p = c .before .before .before .before .before .before .before .before .before .before .before .before .before .before .before .append in
     let v = c .before .before .before .before .before .expand-all in
     first-slot A B b (a .first) is (a .work .now) (s .pre .2) (s .pre .3) (s .pre .1) (a .rules) (a .tops .now) (a .lefts .now) (a .masks .now) R
     (p .last .0) (v .last .1 .1 .1 .1 .0) (v .result) (p .ensures .0) (v .ensures)
@@ -78,7 +74,6 @@ walk-from-spec =
     slice-aggregate-append-2
     slice-aggregate-append-3
     append-requires
-    least-members-requires
     slice-aggregate-expand-all
     slice-aggregate-expand-all-2
     slice-aggregate-expand-all-3

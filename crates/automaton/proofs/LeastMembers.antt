@@ -1,0 +1,34 @@
+-- The least member of a byte is the number of its trailing zeros: both go through the bits from the lowest on. Assumes nothing.
+use mathlib.Core.Path.{_≡_, refl, sym, ap, _∙_}
+use mathlib.Core.Bool.{true, false}
+use Prim.Native.Nat.{ℕ, zero, suc, _+_, _/_, _%_, _^_}
+use native.Mathlib.Nat.{add-zero, zero-add}
+use native.Mathlib.Omega.{arith}
+use lib.Count.{trailingZeros, under}
+use lib.Dec.{eqb}
+use lib.Pow.{shr-shr}
+use Rattle.automaton.specs.Ranges.{nextFrom}
+use Rattle.automaton.specs.Sets.{bit, leastMember}
+
+-- one binary digit d at place i: t zeros are above it, and m is the least member above it
+digit : (d i t m : ℕ) → d % 2 ≡ d → suc i + t ≡ m → i + under d t ≡ elim (eqb d 1) [ true ↦ i | false ↦ m ]
+digit zero i t m h e = omega (arith, e)
+digit (suc zero) i t m h e = add-zero i
+digit (suc (suc d)) i t m h e = absurd (omega arith)
+
+-- of the n bits from i on the first that is set comes after as many as are trailing zeros
+trailing-next : (w n i : ℕ) → i + trailingZeros n (w / 2 ^ i) ≡ nextFrom (bit w) n i
+unfolding trailingZeros nextFrom
+trailing-next w zero i = add-zero i
+trailing-next w (suc n) i =
+    digit (w / 2 ^ i % 2) i (trailingZeros n (w / 2 ^ i / 2)) (nextFrom (bit w) n (suc i)) (omega arith)
+    (ap (λ (x : ℕ). suc i + trailingZeros n x) (shr-shr w i 1 ∙ ap (λ (k : ℕ). w / 2 ^ k) (omega arith)) ∙ trailing-next w n (suc i))
+
+pub trailing-least : (w : ℕ) → trailingZeros 8 w ≡ leastMember w
+unfolding leastMember
+trailing-least w = let e : w ≡ w / 2 ^ 0 = omega arith in ap (trailingZeros 8) e ∙ sym (zero-add _) ∙ trailing-next w 8 0
+
+-- the values at the ends, and at a byte with two members
+least-ends : (leastMember 0 ≡ 8) × (leastMember 1 ≡ 0) × (leastMember 96 ≡ 5) × (leastMember 128 ≡ 7)
+unfolding leastMember nextFrom
+least-ends = (refl, refl, refl, refl)
