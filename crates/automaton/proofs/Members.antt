@@ -110,15 +110,13 @@ bit-kept w k i h = go (i - k) (omega arith)
 
 -- The least member of a byte.
 
-least-next : (w : ℕ) → leastMember w ≡ nextFrom (bit w) 8 0
-unfolding leastMember nextFrom
-least-next w = refl
-
 pub least-holds : (w : ℕ) → leastMember w < 8 → bit w (leastMember w) ≡ true
-least-holds w h = rw least-next (next-holds (bit w) 8 0 (rw least-next at h))
+unfolding leastMember
+least-holds w h = next-holds (bit w) _ _ h
 
 pub least-before : (w k : ℕ) → k < leastMember w → bit w k ≡ false
-least-before w k h = next-before (bit w) 8 0 k (omega arith) (rw least-next at h)
+unfolding leastMember
+least-before w k h = next-before (bit w) _ _ k (omega arith) h
 
 -- The next member is found byte by byte: v is the byte of the numbers from b * 8 on, and n its least member.
 

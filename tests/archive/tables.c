@@ -1,0 +1,28 @@
+/* A table of least members in the ways that it could come back, and none: tests/archive/run has to find the first three. */
+#include <stdint.h>
+
+#define TWO(x) x, 0
+#define FOUR(x) TWO(x), TWO(1)
+#define EIGHT(x) FOUR(x), FOUR(2)
+#define SIXTEEN(x) EIGHT(x), EIGHT(3)
+#define THIRTY_TWO(x) SIXTEEN(x), SIXTEEN(4)
+#define SIXTY_FOUR(x) THIRTY_TWO(x), THIRTY_TWO(5)
+#define TABLE SIXTY_FOUR(8), SIXTY_FOUR(6), SIXTY_FOUR(7), SIXTY_FOUR(6)
+
+unsigned least_member(uint8_t byte);
+
+#if WAY == 1 /* looked up in place */
+static const uint8_t table[256] = { TABLE };
+unsigned least_member(uint8_t byte) { return table[byte]; }
+#elif WAY == 2 /* filled on the stack of each call, and lent */
+unsigned look_up(const uint8_t *table, uint8_t byte);
+unsigned least_member(uint8_t byte) {
+    uint8_t table[256] = { TABLE };
+    return look_up(table, byte);
+}
+#elif WAY == 3 /* looked up in place, four bytes to an entry: its bytes are others, but they are many */
+static const uint32_t table[256] = { TABLE };
+unsigned least_member(uint8_t byte) { return table[byte]; }
+#else /* counted */
+unsigned least_member(uint8_t byte) { return byte == 0 ? 8 : (unsigned)__builtin_ctz(byte); }
+#endif
