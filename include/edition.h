@@ -22,8 +22,8 @@
 #include <stdint.h>
 
 /* The version: for people, and as a number to compare, 10000 * major + 100 * minor + patch. */
-#define EDITION_VERSION "0.3.1"
-#define EDITION_VERSION_NUMBER 301
+#define EDITION_VERSION "0.3.2"
+#define EDITION_VERSION_NUMBER 302
 
 #ifdef __cplusplus
 extern "C" {

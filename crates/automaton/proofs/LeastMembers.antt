@@ -29,6 +29,6 @@ unfolding leastMember
 trailing-least w = let e : w ≡ w / 2 ^ 0 = omega arith in ap (trailingZeros 8) e ∙ sym (zero-add _) ∙ trailing-next w 8 0
 
 -- the values at the ends, and at a byte with two members
-least-ends : (leastMember 0 ≡ 8) × (leastMember 1 ≡ 0) × (leastMember 96 ≡ 5) × (leastMember 128 ≡ 7)
+pub least-ends : (leastMember 0 ≡ 8) × (leastMember 1 ≡ 0) × (leastMember 96 ≡ 5) × (leastMember 128 ≡ 7)
 unfolding leastMember nextFrom
 least-ends = (refl, refl, refl, refl)

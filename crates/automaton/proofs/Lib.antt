@@ -5,6 +5,6 @@ pub mod Members
 pub mod Transitions
 pub mod InRange
 pub mod Bits
-mod LeastMembers
+pub mod LeastMembers
 pub mod EqualAutomata
 pub mod Rank
