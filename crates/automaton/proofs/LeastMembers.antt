@@ -10,13 +10,13 @@ use lib.Pow.{shr-shr}
 use Rattle.automaton.specs.Ranges.{nextFrom}
 use Rattle.automaton.specs.Sets.{bit, leastMember}
 
--- one binary digit d at place i: t zeros are above it, and m is the least member above it
+-- one binary digit d, at place i: where t zeros above it end at m, the zeros from d on end at i if d is set, and else at m
 digit : (d i t m : ℕ) → d % 2 ≡ d → suc i + t ≡ m → i + under d t ≡ elim (eqb d 1) [ true ↦ i | false ↦ m ]
 digit zero i t m h e = omega (arith, e)
 digit (suc zero) i t m h e = add-zero i
 digit (suc (suc d)) i t m h e = absurd (omega arith)
 
--- of the n bits from i on the first that is set comes after as many as are trailing zeros
+-- the first of the n bits from i on that is set comes after as many zeros as end the number without its i lowest bits
 trailing-next : (w n i : ℕ) → i + trailingZeros n (w / 2 ^ i) ≡ nextFrom (bit w) n i
 unfolding trailingZeros nextFrom
 trailing-next w zero i = add-zero i

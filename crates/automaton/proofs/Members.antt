@@ -1,12 +1,11 @@
--- The next member of a range: what it is, and how it is found byte by byte.
+-- The least member of a byte, and the next member of a range found byte by byte.
 -- Then loops over ranges that test, sum and look for members that the header lacks: the rest from i on gives the answer of the whole.
 -- Assumes nothing.
-use mathlib.Core.Path.{_≡_, refl, sym, ap, subst, _∙_}
+use mathlib.Core.Path.{_≡_, refl, sym, ap, _∙_}
 use mathlib.Core.Bool.{Bool, true, false, _&&_, _||_, not}
 use mathlib.Core.List.{List, _∷_}
-use mathlib.Core.Logic.{⊎-elim}
 use Prim.Native.Nat.{ℕ, zero, suc, _+_, _-_, _*_, _/_, _%_, _^_, _≤_, _<_}
-use native.Mathlib.Nat.{mul-assoc, eq-or-lt-of-le, lt-of-not-le}
+use native.Mathlib.Nat.{mul-assoc}
 use native.Mathlib.Omega.{arith}
 use lib.Bits.{shifted-even}
 use lib.Dec.{eqb, ltb}
@@ -17,68 +16,7 @@ use Rattle.automaton.specs.Ranges.{some, nextFrom, those, total}
 use Rattle.automaton.specs.Sets.{bit, leastMember}
 use Rattle.automaton.specs.Automata.{transition, targets, one, transitionCount}
 use Rattle.automaton.specs.Members.{transitionIn, countFrom}
-use Rattle.automaton.proofs.Booleans.{clash}
-
--- what does not change from k to k + 1, for the k from i to below j, is the same at i and j
-same-along : {X : Type 0} (g : ℕ → X) (i j : ℕ) → i ≤ j → ((k : ℕ) → i ≤ k → k < j → g k ≡ g (suc k)) → g i ≡ g j
-same-along g i j h same = go (j - i) i (omega arith) (omega arith)
-  where
-    go : (d k : ℕ) → i ≤ k → k + d ≡ j → g k ≡ g j
-    go zero k p e = ap g (omega arith)
-    go (suc d) k p e = same k p (omega arith) ∙ go d (suc k) (omega arith) (omega arith)
-
--- What the next member is.
-
-module _ (f : ℕ → Bool) where
-  pub next-holds : (n i : ℕ) → nextFrom f n i < i + n → f (nextFrom f n i) ≡ true
-  unfolding nextFrom
-  next-holds zero i h = absurd (omega arith)
-  next-holds (suc n) i h = go (f i) refl (next-holds n (suc i)) h
-    where
-      go : (b : Bool) → f i ≡ b → (nextFrom f n (suc i) < suc i + n → f (nextFrom f n (suc i)) ≡ true)
-          → elim b [ true ↦ i | false ↦ nextFrom f n (suc i) ] < i + suc n
-          → f (elim b [ true ↦ i | false ↦ nextFrom f n (suc i) ]) ≡ true
-      go true e ih l = e
-      go false e ih l = ih (omega arith)
-
-  pub next-before : (n i k : ℕ) → i ≤ k → k < nextFrom f n i → f k ≡ false
-  unfolding nextFrom
-  next-before zero i k h l = absurd (omega arith)
-  next-before (suc n) i k h l = go (f i) refl (next-before n (suc i) k) l
-    where
-      go : (b : Bool) → f i ≡ b → (suc i ≤ k → k < nextFrom f n (suc i) → f k ≡ false)
-          → k < elim b [ true ↦ i | false ↦ nextFrom f n (suc i) ] → f k ≡ false
-      go true e ih m = absurd (omega arith)
-      go false e ih m = ⊎-elim (λ q. subst (λ (x : ℕ). f x ≡ false) q e) (λ q. ih q m) (eq-or-lt-of-le h)
-
-  -- a number at which f does not hold is passed over
-  next-suc : (m i : ℕ) → i < m → f i ≡ false → nextFrom f (m - i) i ≡ nextFrom f (m - suc i) (suc i)
-  unfolding nextFrom
-  next-suc m i h e = go (m - i) (m - suc i) (omega arith)
-    where
-      go : (n l : ℕ) → n ≡ suc l → nextFrom f n i ≡ nextFrom f l (suc i)
-      go n l q = ap (λ (x : ℕ). nextFrom f x i) q ∙ ap (λ (b : Bool). elim b [ true ↦ i | false ↦ nextFrom f l (suc i) ]) e
-
-  -- numbers at which f does not hold are passed over
-  pub next-skip : (m i j : ℕ) → i ≤ j → j ≤ m → ((k : ℕ) → i ≤ k → k < j → f k ≡ false)
-      → nextFrom f (m - i) i ≡ nextFrom f (m - j) j
-  next-skip m i j h l none = same-along (λ k. nextFrom f (m - k) k) i j h (λ k p q. next-suc m k (omega arith) (none k p q))
-
-  -- where the range has ended there is none
-  pub next-end : (m i : ℕ) → i ≡ m → nextFrom f (m - i) i ≡ m
-  unfolding nextFrom
-  next-end m i e = go (m - i) (omega arith) ∙ e
-    where
-      go : (n : ℕ) → n ≡ 0 → nextFrom f n i ≡ i
-      go n q = ap (λ (x : ℕ). nextFrom f x i) q
-
-  -- the first number at which f holds is the next member
-  pub next-is : (m i t : ℕ) → i ≤ t → t < m → f t ≡ true → ((k : ℕ) → i ≤ k → k < t → f k ≡ false) → nextFrom f (m - i) i ≡ t
-  unfolding nextFrom
-  next-is m i t h l e none = next-skip m i t h (omega arith) none ∙ go (m - t) (m - suc t) (omega arith)
-    where
-      go : (n k : ℕ) → n ≡ suc k → nextFrom f n t ≡ t
-      go n k q = ap (λ (x : ℕ). nextFrom f x t) q ∙ ap (λ (b : Bool). elim b [ true ↦ t | false ↦ nextFrom f k (suc t) ]) e
+use Rattle.automaton.proofs.Ranges.{same-along, next-holds, next-before, next-skip, next-is}
 
 -- Bits.
 

@@ -11,9 +11,9 @@
 --   strayOn t n k q a      the same for some target r
 --   strayFrom t n k q      the same for some letter a and target r
 -- Assumes nothing.
-use mathlib.Core.Bool.{Bool, true, false, _&&_, not}
+use mathlib.Core.Bool.{Bool, _&&_, not}
 use mathlib.Core.List.{List}
-use Prim.Native.Nat.{ℕ, zero, suc, _/_, _%_}
+use Prim.Native.Nat.{ℕ, _/_, _%_}
 use lib.Dec.{ltb}
 use lib.ListN.{getD, set}
 use Rattle.automaton.specs.Ranges.{some, total}

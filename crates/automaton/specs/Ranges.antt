@@ -6,7 +6,8 @@
 --   table f n i     f of each of them
 --   largest f n i   the largest value of f at them; of none it is 0
 --   total f n i     the sum of f over them
--- Shown by `some-at` and `some-below`, `next-holds` and `next-before`, `those-has` and `those-pass`, `table-at`, `largest-ub` and `largest-at`. Assumes nothing.
+-- Shown by `some-at` and `some-below`, `next-holds`, `next-before` and `next-none`, `those-has` and `those-pass`, `table-at`, `largest-ub` and
+-- `largest-at`. Assumes nothing.
 use mathlib.Core.Bool.{Bool, true, false, _||_}
 use mathlib.Core.List.{List, [], _∷_}
 use Prim.Native.Nat.{ℕ, zero, suc, _+_, max}

@@ -13,8 +13,8 @@ use lib.Pow.{shr-shr}
 use Rattle.automaton.specs.Ranges.{some, nextFrom, those}
 use Rattle.automaton.specs.Sets.{bit, withBit, leastMember}
 use Rattle.automaton.proofs.Booleans.{T-true, is-true, clash}
-use Rattle.automaton.proofs.Ranges.{some-below}
-use Rattle.automaton.proofs.Members.{next-before, next-holds, next-end, next-in-byte, next-past-byte, those-same}
+use Rattle.automaton.proofs.Ranges.{some-below, next-before, next-holds, next-end}
+use Rattle.automaton.proofs.Members.{next-in-byte, next-past-byte, those-same}
 use Rattle.automaton.proofs.Bits.{bit-zero, bit-with}
 use Rattle.relations.proofs.Rows.{bit-low, word-has}
 use Rattle.classes.proofs.ListedStates.{other, bit-xor}

@@ -34,7 +34,7 @@ pub struct Sides {
     pub otherclass: usize,
 }
 
-// The least state of a set, which is looked for byte by byte; 32 where there is none.
+// The least state of a set, found byte by byte; 32 where there is none.
 fn least(set: u32) -> usize
     ensures { λ r. ⌜ r ≡ nextFrom (bit set) maxStates 0 ⌝ }
 {
