@@ -112,14 +112,6 @@ module _ (f : ℕ → Bool) where
       → nextFrom f (m - i) i ≡ nextFrom f (m - j) j
   next-skip m i j h l none = same-along (λ k. nextFrom f (m - k) k) i j h (λ k p q. next-suc m k (omega arith) (none k p q))
 
-  -- where the range has ended there is none
-  pub next-end : (m i : ℕ) → i ≡ m → nextFrom f (m - i) i ≡ m
-  unfolding nextFrom
-  next-end m i e = go (m - i) (omega arith) ∙ e
-    where
-      go : (n : ℕ) → n ≡ 0 → nextFrom f n i ≡ i
-      go n q = ap (λ (x : ℕ). nextFrom f x i) q
-
   -- the first number at which f holds is the next member
   pub next-is : (m i t : ℕ) → i ≤ t → t < m → f t ≡ true → ((k : ℕ) → i ≤ k → k < t → f k ≡ false) → nextFrom f (m - i) i ≡ t
   unfolding nextFrom
