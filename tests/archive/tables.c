@@ -1,4 +1,4 @@
-/* A table of least members in the ways that it could come back, and none: tests/archive/run has to find the first four. */
+/* A table of least members in four ways in which it could come back, and none: tests/archive/run has to find the four. */
 #include <stdint.h>
 
 #define TWO(x) x, 0
@@ -20,7 +20,7 @@ unsigned least_member(uint8_t byte) {
     uint8_t table[256] = { TABLE };
     return look_up(table, byte);
 }
-#elif WAY == 3 /* filled eight entries at a time, which are constants of the code; the first two eights */
+#elif WAY == 3 /* filled eight entries at a time, which are constants of the code; its first sixteen entries */
 unsigned least_member(uint8_t byte) {
     volatile uint64_t table[2];
     table[0] = UINT64_C(0x0001000200010008);

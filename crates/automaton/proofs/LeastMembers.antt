@@ -1,7 +1,8 @@
--- The least member of a byte is the number of its trailing zeros: both go through the bits from the lowest on. Assumes nothing.
+-- The least member of a byte: it is a member, none is lower, and it is the number of trailing zeros, since both go through the bits from the lowest
+-- on. Assumes nothing.
 use mathlib.Core.Path.{_≡_, refl, sym, ap, _∙_}
 use mathlib.Core.Bool.{true, false}
-use Prim.Native.Nat.{ℕ, zero, suc, _+_, _/_, _%_, _^_}
+use Prim.Native.Nat.{ℕ, zero, suc, _+_, _/_, _%_, _^_, _<_}
 use native.Mathlib.Nat.{add-zero, zero-add}
 use native.Mathlib.Omega.{arith}
 use lib.Count.{trailingZeros, under}
@@ -9,6 +10,15 @@ use lib.Dec.{eqb}
 use lib.Pow.{shr-shr}
 use Rattle.automaton.specs.Ranges.{nextFrom}
 use Rattle.automaton.specs.Sets.{bit, leastMember}
+use Rattle.automaton.proofs.Ranges.{next-holds, next-before}
+
+pub least-holds : (w : ℕ) → leastMember w < 8 → bit w (leastMember w) ≡ true
+unfolding leastMember
+least-holds w h = next-holds (bit w) _ _ h
+
+pub least-before : (w k : ℕ) → k < leastMember w → bit w k ≡ false
+unfolding leastMember
+least-before w k h = next-before (bit w) _ _ k (omega arith) h
 
 -- one binary digit d, at place i: where t zeros above it end at m, the zeros from d on end at i if d is set, and else at m
 digit : (d i t m : ℕ) → d % 2 ≡ d → suc i + t ≡ m → i + under d t ≡ elim (eqb d 1) [ true ↦ i | false ↦ m ]

@@ -1,6 +1,6 @@
--- The least member of a byte, and the next member of a range found byte by byte.
--- Then loops over ranges that test, sum and look for members that the header lacks: the rest from i on gives the answer of the whole.
--- Assumes nothing.
+-- Bits of a number with its low bits cleared, and the next member of a range, found byte by byte.
+-- Then loops over ranges that test, sum and look for members that the header lacks: the rest from i on gives the answer of the whole. Last, that
+-- between the header's states a transition is its bit. Assumes nothing.
 use mathlib.Core.Path.{_≡_, refl, sym, ap, _∙_}
 use mathlib.Core.Bool.{Bool, true, false, _&&_, _||_, not}
 use mathlib.Core.List.{List, _∷_}
@@ -16,7 +16,8 @@ use Rattle.automaton.specs.Ranges.{some, nextFrom, those, total}
 use Rattle.automaton.specs.Sets.{bit, leastMember}
 use Rattle.automaton.specs.Automata.{transition, targets, one, transitionCount}
 use Rattle.automaton.specs.Members.{transitionIn, countFrom}
-use Rattle.automaton.proofs.Ranges.{same-along, next-holds, next-before, next-skip, next-is}
+use Rattle.automaton.proofs.Ranges.{same-along, next-skip, next-is}
+use Rattle.automaton.proofs.LeastMembers.{least-holds, least-before}
 
 -- Bits.
 
@@ -45,16 +46,6 @@ bit-kept w k i h = go (i - k) (omega arith)
         ∙ ap (λ (x : ℕ). x / 2 ^ d) (shl-shr (w / 2 ^ k) k)
         ∙ shr-shr w k d
         ∙ ap (λ (x : ℕ). w / 2 ^ x) (sym e))
-
--- The least member of a byte.
-
-pub least-holds : (w : ℕ) → leastMember w < 8 → bit w (leastMember w) ≡ true
-unfolding leastMember
-least-holds w h = next-holds (bit w) _ _ h
-
-pub least-before : (w k : ℕ) → k < leastMember w → bit w k ≡ false
-unfolding leastMember
-least-before w k h = next-before (bit w) _ _ k (omega arith) h
 
 -- The next member is found byte by byte: v is the byte of the numbers from b * 8 on, and n its least member.
 

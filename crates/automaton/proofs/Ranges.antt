@@ -1,4 +1,4 @@
--- Laws of tests, next members, lists and largest values over a range of numbers. Assumes nothing.
+-- Laws of tables, tests, next members, lists and largest values over a range of numbers. Assumes nothing.
 use mathlib.Core.Path.{_≡_, refl, sym, ap, subst, _∙_}
 use mathlib.Core.Bool.{Bool, true, false}
 use mathlib.Core.Logic.{_⊎_, inl, inr, ⊎-elim}
@@ -10,6 +10,16 @@ use lib.Dec.{T}
 use lib.ListN.{length, getD}
 use Rattle.automaton.specs.Ranges.{some, nextFrom, those, table, largest}
 use Rattle.automaton.proofs.Booleans.{or-cases, or-left, or-right}
+
+-- Along a range.
+
+-- what does not change from k to k + 1, for the k from i to below j, is the same at i and j
+pub same-along : {X : Type 0} (g : ℕ → X) (i j : ℕ) → i ≤ j → ((k : ℕ) → i ≤ k → k < j → g k ≡ g (suc k)) → g i ≡ g j
+same-along g i j h same = go (j - i) i (omega arith) (omega arith)
+  where
+    go : (d k : ℕ) → i ≤ k → k + d ≡ j → g k ≡ g j
+    go zero k p e = ap g (omega arith)
+    go (suc d) k p e = same k p (omega arith) ∙ go d (suc k) (omega arith) (omega arith)
 
 -- Tables.
 
@@ -61,14 +71,6 @@ some-below f n t = let r = some-find f n 0 t in (r .0, omega (arith, r .1), r .2
 
 -- Next members.
 
--- what does not change from k to k + 1, for the k from i to below j, is the same at i and j
-pub same-along : {X : Type 0} (g : ℕ → X) (i j : ℕ) → i ≤ j → ((k : ℕ) → i ≤ k → k < j → g k ≡ g (suc k)) → g i ≡ g j
-same-along g i j h same = go (j - i) i (omega arith) (omega arith)
-  where
-    go : (d k : ℕ) → i ≤ k → k + d ≡ j → g k ≡ g j
-    go zero k p e = ap g (omega arith)
-    go (suc d) k p e = same k p (omega arith) ∙ go d (suc k) (omega arith) (omega arith)
-
 module _ (f : ℕ → Bool) where
   pub next-holds : (n i : ℕ) → nextFrom f n i < i + n → f (nextFrom f n i) ≡ true
   unfolding nextFrom
@@ -91,14 +93,6 @@ module _ (f : ℕ → Bool) where
       go true e ih m = absurd (omega arith)
       go false e ih m = ⊎-elim (λ q. subst (λ (x : ℕ). f x ≡ false) q e) (λ q. ih q m) (eq-or-lt-of-le h)
 
-  pub next-none : (n i : ℕ) → ((k : ℕ) → i ≤ k → k < i + n → f k ≡ false) → nextFrom f n i ≡ i + n
-  unfolding nextFrom
-  next-none zero i none = sym (add-zero i)
-  next-none (suc n) i none =
-      ap (λ (b : Bool). elim b [ true ↦ i | false ↦ nextFrom f n (suc i) ]) (none i (omega arith) (omega arith))
-      ∙ next-none n (suc i) (λ k p q. none k (omega arith) (omega arith))
-      ∙ suc-add i n ∙ sym (add-suc i n)
-
   -- a number at which f does not hold is passed over
   next-suc : (m i : ℕ) → i < m → f i ≡ false → nextFrom f (m - i) i ≡ nextFrom f (m - suc i) (suc i)
   unfolding nextFrom
@@ -111,6 +105,14 @@ module _ (f : ℕ → Bool) where
   pub next-skip : (m i j : ℕ) → i ≤ j → j ≤ m → ((k : ℕ) → i ≤ k → k < j → f k ≡ false)
       → nextFrom f (m - i) i ≡ nextFrom f (m - j) j
   next-skip m i j h l none = same-along (λ k. nextFrom f (m - k) k) i j h (λ k p q. next-suc m k (omega arith) (none k p q))
+
+  -- where f holds nowhere, it is the number after the range
+  pub next-none : (m i : ℕ) → i ≤ m → ((k : ℕ) → i ≤ k → k < m → f k ≡ false) → nextFrom f (m - i) i ≡ m
+  unfolding nextFrom
+  next-none m i h none = next-skip m i m h (omega arith) none ∙ go (m - m) (omega arith)
+    where
+      go : (n : ℕ) → n ≡ 0 → nextFrom f n m ≡ m
+      go n q = ap (λ (x : ℕ). nextFrom f x m) q
 
   -- the first number at which f holds is the next member
   pub next-is : (m i t : ℕ) → i ≤ t → t < m → f t ≡ true → ((k : ℕ) → i ≤ k → k < t → f k ≡ false) → nextFrom f (m - i) i ≡ t

@@ -1,4 +1,4 @@
--- Tests, members, lists, sums and largest values over the n numbers from i on: what the definitions of the other files go through states, letters and
+-- Tests, next members, lists, sums and largest values over the n numbers from i on: what the definitions of the other files go through states, letters and
 -- places with.
 --   some f n i      f holds at one of them
 --   nextFrom f n i  the least of them at which f holds; the number after them where there is none

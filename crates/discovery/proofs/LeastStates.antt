@@ -38,7 +38,7 @@ module _ (w b m : ℕ) (inside : b < 4) (least : m ≡ leastMember (w / 2 ^ (b *
       next-past-byte (bit w) b (w / 2 ^ (b * 8) % 256) m least (bit-in-byte w b) 32 ((b + 1) * 8) (omega arith) (omega arith) l
 
 pub least-end : (w b : ℕ) → b ≤ 4 → 4 ≤ b → nextFrom (bit w) (32 - b * 8) (b * 8) ≡ 32
-least-end w b l h = next-none (bit w) (32 - b * 8) (b * 8) (λ k p q. absurd (omega arith)) ∙ omega arith
+least-end w b l h = next-none (bit w) 32 (b * 8) (omega arith) (λ k p q. absurd (omega arith))
 
 -- a word that is not 0 has a least state
 pub least-there : (w q : ℕ) → w < 2 ^ 32 → (w ≡ 0 → ⊥) → q ≡ nextFrom (bit w) 32 0 → (q < 32) × (bit w q ≡ true)
