@@ -1,14 +1,14 @@
-/* The Büchi edition checker: the four functions of libkernel.a, and what takes their numbers apart.
+/* The Büchi edition checker: the five functions of libkernel.a, and what takes their numbers apart.
 
    Link with target/staticlib/libkernel.a, which `rt staticlib kernel` writes. It needs memcpy, memmove, memset and memcmp at most.
 
    Arguments. A buffer is a pointer and its length in bytes; NULL goes with length 0. Any contents are answered, and any length below
    2^63: the proofs are about these, and no object in memory is longer. A buffer that a function writes (entry of open and offer,
-   work, word) overlaps no other argument; those that it only reads may overlap each other.
+   work, word, out) overlaps no other argument; those that it only reads may overlap each other.
 
-   What is left alone. A refusal leaves every byte of `entry` and of `word` as it was, and of `work` too, except that 10 and 11 leave
-   the slots of the walks made. `word` is written only where a word is given back, and the bytes past the word keep their contents;
-   so do the bytes of `work` past the slots.
+   What is left alone. A refusal leaves every byte of `entry`, of `word` and of `out` as it was, and of `work` too, except that 10 and
+   11 leave the slots of the walks made. `word` is written only where a word is given back, and the bytes past the word keep their
+   contents; so do the bytes of `work` past the slots, and those of `out` past the file that is written.
 
    Threads. There are no global variables and no allocation: calls on buffers of their own may run at the same time.
 
@@ -22,14 +22,14 @@
 #include <stdint.h>
 
 /* The version: for people, and as a number to compare, 10000 * major + 100 * minor + patch. */
-#define EDITION_VERSION "0.3.2"
-#define EDITION_VERSION_NUMBER 302
+#define EDITION_VERSION "0.4.0"
+#define EDITION_VERSION_NUMBER 400
 
 #ifdef __cplusplus
 extern "C" {
 #endif
 
-/* Limits. A longer work or word buffer is allowed. */
+/* Limits. A longer work, word or out buffer is allowed. */
 #define EDITION_MAX_STATES 32  /* of an automaton */
 #define EDITION_MAX_LETTERS 16 /* of an automaton */
 #define EDITION_MAX_BOUND 14   /* a larger one is refused with 8 */
@@ -39,12 +39,14 @@ extern "C" {
 #define EDITION_MAX_WORK (EDITION_MAX_SLOTS * EDITION_SLOT_BYTES) /* bytes of the largest useful work buffer */
 #define EDITION_MAX_WORD 4096  /* letters of a word: a word buffer of this length is never too short */
 #define EDITION_ENTRY_BYTES 2061 /* an entry; one whose bytes are all zero is fresh, that is empty */
+#define EDITION_MAX_FILE 82023 /* bytes of a file: an output buffer of this length is never too short */
 
 /* Kinds of answers. A kind of 100 or more is a refusal, see edition_refusal. */
 enum edition_contain_kind { EDITION_CONTAINED = 0, EDITION_DIFFERS = 1 };
 enum edition_open_kind { EDITION_OPENED = 0 };
 enum edition_offer_kind { EDITION_TAKEN = 0, EDITION_FORWARD = 1, EDITION_BACK = 2 };
 enum edition_verdict_kind { EDITION_NO = 0, EDITION_YES = 1 };
+enum edition_write_kind { EDITION_WROTE = 0 };
 
 /* Refusals. */
 enum edition_refusal_number {
@@ -62,7 +64,8 @@ enum edition_refusal_number {
     EDITION_REFUSED_ALREADY_OPEN = 12, /* the entry holds an edition already */
     EDITION_REFUSED_EMPTY = 13,       /* the entry is empty */
     EDITION_REFUSED_NOT_SMALLER = 14, /* no fewer states, and not as many with fewer transitions; or no edition number is left */
-    EDITION_REFUSED_LASSO = 15        /* the loop is empty, stem or loop is over EDITION_MAX_LASSO, or a letter is not the automaton's */
+    EDITION_REFUSED_LASSO = 15,       /* the loop is empty, stem or loop is over EDITION_MAX_LASSO, or a letter is not the automaton's */
+    EDITION_REFUSED_ROOM = 16         /* the output buffer is shorter than the file: call again with the length given */
 };
 
 /* Is the first file's automaton contained in the second's at the bound? The number has a kind, a count and a word length:
@@ -96,9 +99,18 @@ uint64_t entry_offer(uint8_t *entry, size_t entry_len, const uint8_t *file, size
 uint64_t entry_verdict(const uint8_t *entry, size_t entry_len, const uint8_t *stem, size_t stem_len,
                        const uint8_t *loop, size_t loop_len);
 
+/* Writes the file's automaton in the fixed form: the header; the accepting records by state and the transition records by source, then
+   letter, then target, lowest first; the end record. The number has a kind and a length:
+     EDITION_WROTE     length: the bytes of the file written, which stands in front in `out`
+     refusals 1 to 5   the file cannot be read; there is no length
+     refusal 16        length: the bytes that `out` must have; tested after 1 to 5. An `out` as long as the file is never too short, nor
+                       is one of EDITION_MAX_FILE bytes
+   Files that hold the same automaton come out alike, and a file in the fixed form as it is. A dead state is no obstacle. */
+uint64_t file_write(const uint8_t *file, size_t file_len, uint8_t *out, size_t out_len);
+
 /* Parts of a number. A part that an answer lacks is 0. */
 
-/* The kind, of any of the four functions' numbers. */
+/* The kind, of any of the five functions' numbers. */
 static inline unsigned edition_kind(uint64_t number) { return (unsigned)(number & 0xff); }
 
 /* The refusal, a number of enum edition_refusal_number, or 0 if the call was not refused. */
@@ -123,6 +135,9 @@ static inline size_t edition_offer_word(uint64_t number) { return (size_t)(numbe
 
 /* entry_offer: with refusals 10 and 11 the walk, 1 forward or 2 back. */
 static inline unsigned edition_offer_walk(uint64_t number) { return (unsigned)(number >> 56); }
+
+/* file_write: the bytes of the file that is written (with refusal 16, the length needed). */
+static inline size_t edition_written_length(uint64_t number) { return (size_t)(number >> 8); }
 
 /* Fields of an entry of EDITION_ENTRY_BYTES bytes that the functions above wrote. The fields of an empty entry mean nothing. */
 

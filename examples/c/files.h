@@ -8,7 +8,7 @@
 #include <stdlib.h>
 #include <string.h>
 
-/* Exit statuses: yes (contained, opened, taken), no (differs, turned down), refused, wrong use or unreadable file. */
+/* Exit statuses: yes (contained, opened, taken, written), no (differs, turned down), refused, wrong use or unreadable file. */
 enum { STATUS_YES = 0, STATUS_NO = 1, STATUS_REFUSED = 2, STATUS_WRONG_USE = 3 };
 
 struct file {
@@ -16,7 +16,7 @@ struct file {
     size_t len;
 };
 
-/* Reads a whole file, or ends the program. A valid file has at most 82,023 bytes. */
+/* Reads a whole file, or ends the program. A valid file has at most EDITION_MAX_FILE bytes. */
 static inline void read_file(const char *name, struct file *file) {
     FILE *in = fopen(name, "rb");
     if (!in) {

@@ -1,5 +1,6 @@
-/* compare BEFORE.so AFTER.so COUNT SEED: calls the four functions of two builds of the archive on the same drawn inputs and compares the number and
+/* compare BEFORE.so AFTER.so COUNT SEED: calls the functions of two builds of the archive on the same drawn inputs and compares the number and
    every byte of every buffer after each call. Prints the seed, how many calls there were of each function and how many had each kind of answer.
+   A function that BEFORE lacks is not called, and that is printed too.
    Ends with status 1 and the inputs of the first difference, if there is one. tools/compare builds and runs it. */
 #define _POSIX_C_SOURCE 200809L
 #include "../contain/rings.h"
@@ -48,6 +49,11 @@ static uint64_t ask_verdict(void) {
     lend(&buffers[0], "entry", entry.at, entry.len);
     lend(&buffers[1], "stem", stem.at, stem.len), lend(&buffers[2], "loop", cycle.at, cycle.len);
     return made_call(VERDICT, 3, 0);
+}
+
+static uint64_t ask_write(size_t room) {
+    lend(&buffers[0], "file", first.at, first.len), lend(&buffers[1], "output", NULL, room);
+    return made_call(WRITE, 2, 0);
 }
 
 static uint64_t draw_bound(void) {
@@ -120,6 +126,36 @@ static void contain_calls(void) {
         size_t vertices = edition_contain_count(number), letters = edition_contain_word(number);
         ask_contain(bound, draw_work(vertices), draw_word_length(letters));
     }
+}
+
+/* A length of the output buffer, where a file of so many bytes is to fit or not. */
+static size_t draw_room(size_t needed) {
+    const size_t lengths[] = {0, 1, 7, 100, LONGEST_FILE - 1, LONGEST_FILE, LONGEST_FILE + 1, LONGEST_FILE + 5000};
+    switch (below(8)) {
+    case 0: case 1: return needed;
+    case 2: case 3: return needed ? needed - 1 : 0;
+    case 4: return needed + 1;
+    case 5: return needed + below(300);
+    default: return PICK(lengths);
+    }
+}
+
+/* Writes of an automaton's file, of one with its records in another order perhaps, and of what was written. */
+static void write_calls(const struct automaton *a, unsigned spoilt) {
+    if (!is_compared(WRITE)) return;
+    draw_file(a, &first, spoilt), ask_write(draw_room(first.len));
+    write_file(a, &first);
+    if (edition_refusal(ask_write(first.len))) return;
+    memcpy(first.at, buffers[1].space[0] + GUARD + buffers[1].skew, first.len);
+    ask_write(draw_room(first.len));
+}
+
+/* Writes of any automaton: most have dead states, some no record. */
+static void drawn_write_calls(void) {
+    struct automaton a = drawn(draw_states(), draw_letters());
+    if (chance(1, 4)) a = trimmed(&a);
+    if (chance(1, 16)) a = bare(a.states, a.letters, a.initial);
+    write_calls(&a, 30);
 }
 
 static void draw_letters_of(struct bytes *word, unsigned letters, size_t len) {
@@ -256,6 +292,7 @@ static void bytes_calls(void) {
     for (size_t i = 0; i < entry.len; i++) entry.at[i] = (uint8_t)bits();
     ask_contain(draw_bound(), draw_work(0), draw_word_length(0));
     ask_open(), draw_verdict(draw_letters()), ask_offer(draw_bound(), draw_work(0), draw_word_length(0));
+    if (is_compared(WRITE)) ask_write(draw_room(first.len));
 }
 
 /* About as many work bytes as are used at the most. */
@@ -309,13 +346,15 @@ static void dense_calls(void) {
     draw_file(&a, &first, 20), draw_file(&b, &second, 20);
     ask_contain(below(3), draw_work(2), draw_word_length(1));
     draw_fresh(), ask_open(), draw_verdict(a.letters);
+    write_calls(&a, 20);
     draw_file(&b, &first, 20), ask_offer(below(3), draw_work(2), draw_word_length(1));
 }
 
 /* Some calls that have something to do with each other. */
 static void some_calls(void) {
     unsigned which = below(1000);
-    if (which < 780) contain_calls();
+    if (which < 700) contain_calls();
+    else if (which < 780) drawn_write_calls();
     else if (which < 880) history_calls();
     else if (which < 955) forged_calls();
     else if (which < 975) bytes_calls();

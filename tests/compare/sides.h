@@ -1,4 +1,4 @@
-/* The four functions of two archives, and calls of both on equal buffers: every number and every byte afterwards has to be the same. */
+/* The functions of two archives, and calls of both on equal buffers: every number and every byte afterwards has to be the same. */
 #ifndef TESTS_COMPARE_SIDES_H
 #define TESTS_COMPARE_SIDES_H
 
@@ -9,8 +9,8 @@
 #include <stdlib.h>
 #include <string.h>
 
-enum function { CONTAIN, OPEN, OFFER, VERDICT, FUNCTIONS };
-static const char *const function_names[FUNCTIONS] = {"contain", "entry_open", "entry_offer", "entry_verdict"};
+enum function { CONTAIN, OPEN, OFFER, VERDICT, WRITE, FUNCTIONS };
+static const char *const function_names[FUNCTIONS] = {"contain", "entry_open", "entry_offer", "entry_verdict", "file_write"};
 
 /* One of the two archives. */
 struct side {
@@ -19,14 +19,18 @@ struct side {
     uint64_t (*open)(uint8_t *, size_t, const uint8_t *, size_t);
     uint64_t (*offer)(uint8_t *, size_t, const uint8_t *, size_t, uint64_t, uint8_t *, size_t, uint8_t *, size_t);
     uint64_t (*verdict)(const uint8_t *, size_t, const uint8_t *, size_t, const uint8_t *, size_t);
+    uint64_t (*write)(const uint8_t *, size_t, uint8_t *, size_t); /* NULL in a build before it came */
 };
 
 static struct side sides[2];
 
-/* Sets a pointer to the function of this name, or ends the program. */
-static inline void find(void *library, const char *name, void *pointer) {
+/* Whether both builds have the function: only the one before may lack some. */
+static inline int is_compared(enum function function) { return function != WRITE || sides[0].write; }
+
+/* Sets a pointer to the function of this name. Ends the program where there is none, unless it may be lacking. */
+static inline void find(void *library, const char *name, int may_lack, void *pointer) {
     void *found = dlsym(library, name);
-    if (!found) {
+    if (!found && !may_lack) {
         printf("compare: %s\n", dlerror());
         exit(3);
     }
@@ -40,10 +44,11 @@ static inline void load(struct side *side, const char *name, const char *path) {
         exit(3);
     }
     side->name = name;
-    find(library, "contain", &side->contain);
-    find(library, "entry_open", &side->open);
-    find(library, "entry_offer", &side->offer);
-    find(library, "entry_verdict", &side->verdict);
+    find(library, "contain", 0, &side->contain);
+    find(library, "entry_open", 0, &side->open);
+    find(library, "entry_offer", 0, &side->offer);
+    find(library, "entry_verdict", 0, &side->verdict);
+    find(library, "file_write", side == &sides[0], &side->write);
 }
 
 /* A buffer of a call, with a copy for each side. Before and behind the bytes lent stand others, which are compared too. */
@@ -93,7 +98,8 @@ static inline uint64_t call_side(enum function function, int side, uint64_t boun
     case CONTAIN: return s->contain(at[0], len[0], at[1], len[1], bound, at[2], len[2], at[3], len[3]);
     case OPEN: return s->open(at[0], len[0], at[1], len[1]);
     case OFFER: return s->offer(at[0], len[0], at[1], len[1], bound, at[2], len[2], at[3], len[3]);
-    default: return s->verdict(at[0], len[0], at[1], len[1], at[2], len[2]);
+    case VERDICT: return s->verdict(at[0], len[0], at[1], len[1], at[2], len[2]);
+    default: return s->write(at[0], len[0], at[1], len[1]);
     }
 }
 

@@ -31,11 +31,13 @@ static const struct outcome outcomes[] = {
     {OFFER, 113, 0, "refused 13"}, {OFFER, 114, 0, "refused 14"},
     {VERDICT, 0, 0, "no"}, {VERDICT, 1, 0, "yes"}, {VERDICT, 109, 0, "refused 9"}, {VERDICT, 113, 0, "refused 13"},
     {VERDICT, 115, 0, "refused 15"},
+    {WRITE, 0, 0, "wrote"}, {WRITE, 101, 0, "refused 1"}, {WRITE, 102, 0, "refused 2"}, {WRITE, 103, 0, "refused 3"},
+    {WRITE, 104, 0, "refused 4"}, {WRITE, 105, 0, "refused 5"}, {WRITE, 116, 0, "refused 16"},
 };
 enum { OUTCOMES = sizeof outcomes / sizeof *outcomes };
 
 static uint64_t calls[FUNCTIONS], met[OUTCOMES], others[FUNCTIONS];
-static size_t most_vertices[FUNCTIONS], longest_word[FUNCTIONS];
+static size_t most_vertices[FUNCTIONS], longest_word[FUNCTIONS], longest_file;
 
 static inline size_t larger(size_t a, size_t b) { return a > b ? a : b; }
 
@@ -55,6 +57,7 @@ static inline void count(enum function function, uint64_t number) {
     calls[function]++;
     if (place < OUTCOMES) met[place]++;
     else others[function]++;
+    if (function == WRITE && kind == EDITION_WROTE) longest_file = larger(longest_file, edition_written_length(number));
     if (kind > 2 || (function != CONTAIN && function != OFFER)) return;
     size_t vertices = larger(edition_offer_forward(number), edition_offer_back(number)), letters = edition_offer_word(number);
     if (function == CONTAIN) vertices = edition_contain_count(number), letters = edition_contain_word(number);
@@ -62,11 +65,16 @@ static inline void count(enum function function, uint64_t number) {
     longest_word[function] = larger(longest_word[function], letters);
 }
 
-/* Prints the counts; an outcome that no call came to is told. */
+/* Prints the counts; an outcome that no call came to is told, and a function that is not compared. */
 static inline void print_counts(void) {
     for (int function = 0; function < FUNCTIONS; function++) {
+        if (!is_compared((enum function)function)) {
+            printf("%s: not compared, the build before lacks it\n", function_names[function]);
+            continue;
+        }
         printf("%s: %llu calls", function_names[function], (unsigned long long)calls[function]);
         if (longest_word[function]) printf(", up to %zu vertices and words of %zu letters", most_vertices[function], longest_word[function]);
+        if (function == WRITE) printf(", files of up to %zu bytes", longest_file);
         printf("\n");
         for (int i = 0; i < OUTCOMES; i++) {
             if (outcomes[i].function != (enum function)function) continue;

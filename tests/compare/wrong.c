@@ -1,5 +1,6 @@
 /* Wrong kernels for the test of tools/compare: the archive's functions, renamed to right_NAME, with the mistake that MISTAKE numbers. */
 #include <edition.h>
+#include <string.h>
 
 enum { SLOT = EDITION_SLOT_BYTES };
 
@@ -7,6 +8,7 @@ uint64_t right_contain(const uint8_t *, size_t, const uint8_t *, size_t, uint64_
 uint64_t right_entry_open(uint8_t *, size_t, const uint8_t *, size_t);
 uint64_t right_entry_offer(uint8_t *, size_t, const uint8_t *, size_t, uint64_t, uint8_t *, size_t, uint8_t *, size_t);
 uint64_t right_entry_verdict(const uint8_t *, size_t, const uint8_t *, size_t, const uint8_t *, size_t);
+uint64_t right_file_write(const uint8_t *, size_t, uint8_t *, size_t);
 
 uint64_t contain(const uint8_t *first, size_t first_len, const uint8_t *second, size_t second_len, uint64_t bound, uint8_t *work, size_t work_len,
                  uint8_t *word, size_t word_len) {
@@ -51,5 +53,31 @@ uint64_t entry_verdict(const uint8_t *entry, size_t entry_len, const uint8_t *st
     if (MISTAKE == 18 && stem_len == EDITION_MAX_LASSO + 1) stem_len--; /* a stem of 4,097 letters passes */
     uint64_t number = right_entry_verdict(entry, entry_len, stem, stem_len, loop, loop_len);
     if (MISTAKE == 19 && number == EDITION_YES && loop_len == 6 && stem_len == 6) number = EDITION_NO; /* some accepted words */
+    return number;
+}
+
+/* Exchanges the last two transition records of a file, if there are two. */
+static void exchange_last(uint8_t *file, size_t len) {
+    uint8_t last[5];
+    if (len < 7 + 2 * sizeof last || file[len - 11] != 0x54 || file[len - 6] != 0x54) return;
+    memcpy(last, file + len - 7, sizeof last), memcpy(file + len - 7, file + len - 12, sizeof last), memcpy(file + len - 12, last, sizeof last);
+}
+
+uint64_t file_write(const uint8_t *file, size_t file_len, uint8_t *out, size_t out_len) {
+    if (MISTAKE == 21 && edition_refusal(right_contain(file, file_len, file, file_len, 0, NULL, 0, NULL, 0)) == EDITION_REFUSED_DEAD)
+        return 100 + EDITION_REFUSED_DEAD; /* dead states are refused */
+    if (MISTAKE == 22 && out_len == 0) return 100 + EDITION_REFUSED_ROOM; /* without a buffer the file is not read */
+    uint64_t number = right_file_write(file, file_len, out, out_len);
+    size_t len = edition_written_length(number);
+    unsigned refusal = edition_refusal(number);
+    int wrote = refusal == 0;
+    if (MISTAKE == 23 && refusal == EDITION_REFUSED_ROOM && out_len) out[0] = 0x41; /* a file that does not fit is begun */
+    if (MISTAKE == 24 && refusal == EDITION_REFUSED_ROOM) number = 100 + EDITION_REFUSED_ROOM + ((uint64_t)out_len << 8); /* the room is told, not the need */
+    if (MISTAKE == 25 && refusal == EDITION_REFUSED_REPEATED && out_len >= 5) memcpy(out, file, 5); /* the header is written before the file is read */
+    if (MISTAKE == 26 && wrote && len == out_len) number = 100 + EDITION_REFUSED_ROOM + ((uint64_t)len << 8); /* the length needed is too short */
+    if (MISTAKE == 27 && wrote && len < out_len) out[len] = 0; /* the byte behind the file is cleared */
+    if (MISTAKE == 28 && wrote && len == EDITION_MAX_FILE) out[len - 3] ^= 1; /* the last target of the longest file */
+    if (MISTAKE == 29 && wrote) memcpy(out, file, len); /* the file is written as it came */
+    if (MISTAKE == 30 && wrote) exchange_last(out, len); /* the last two transitions are exchanged */
     return number;
 }

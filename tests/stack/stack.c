@@ -1,12 +1,15 @@
 /* Measures the stack that the functions use: for calls that read no word back, and for each letter of a word that is read back. */
 #define _POSIX_C_SOURCE 200809L
 #include "../contain/rings.h"
+#include "../write/longest.h"
 #include <pthread.h>
 
 enum { STACK = 4 << 20, MOST = 64 * 1024, MOST_LETTER = 128, WORK = EDITION_MAX_WORK, WORD = EDITION_MAX_WORD };
 
 static uint8_t work[WORK], word[WORD], entry[EDITION_ENTRY_BYTES];
 static const uint8_t zeros[EDITION_MAX_LASSO];
+static uint8_t longest[EDITION_MAX_FILE], out[EDITION_MAX_FILE];
+static size_t room; /* bytes of `out` that are lent */
 
 /* A call on two files: the second is offered to an entry that holds the first, where there is an entry. */
 struct call {
@@ -42,6 +45,12 @@ static void *opened(void *arg) {
 static void *verdict(void *arg) {
     (void)arg;
     answer = entry_verdict(entry, sizeof entry, zeros, sizeof zeros, zeros, sizeof zeros);
+    return NULL;
+}
+
+static void *written(void *arg) {
+    (void)arg;
+    answer = file_write(longest, sizeof longest, out, room);
     return NULL;
 }
 
@@ -160,6 +169,16 @@ static void plain_calls(void) {
     measured("entry_verdict", verdict, &asks);
 }
 
+static void write_calls(void) {
+    const uint64_t length = EDITION_MAX_FILE;
+    const struct file none = {{0}, 0};
+    const struct call wrote = {"the longest file, all records but the first backwards", none, none, 0, 0, 0, EDITION_WROTE + (length << 8), 0};
+    const struct call no_room = {"one byte of room short", none, none, 0, 0, 0, 100 + EDITION_REFUSED_ROOM + (length << 8), 0};
+    make_longest(longest, LONGEST_RECORDS - 1);
+    room = sizeof out, measured("file_write", written, &wrote);
+    room = sizeof out - 1, measured("file_write", written, &no_room);
+}
+
 int main(void) {
     automata();
     made.first = left[AGAIN], made.second = right[AGAIN], made.work_len = WORK, made.word_len = WORD;
@@ -169,5 +188,6 @@ int main(void) {
     contain_calls();
     offer_calls();
     plain_calls();
+    write_calls();
     return failures != 0;
 }

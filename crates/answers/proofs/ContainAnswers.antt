@@ -14,12 +14,12 @@ use Rattle.graph.proofs.WalkTheorem.{list-word-length}
 use Rattle.slots.specs.Slots.{slotCount}
 use Rattle.answers.specs.declared.Outcome.{Outcome}
 use Rattle.answers.specs.declared.Outcome.the-variants.{Refused}
-use Rattle.answers.specs.Checks.{None, At}
+use Rattle.checks.specs.Checks.{None, At}
 use Rattle.answers.specs.Contain.{outcomeOf}
 use Rattle.answers.specs.Table.{containRows, containPlace}
 use Rattle.answers.specs.Demand1.{first-file, second-file, bound, letters, first-dead, second-dead, Listed}
-use Rattle.answers.proofs.ChecksLaws.{also, Every, first-every, Placed, first-at}
-use Rattle.answers.proofs.FileRows.{refused-read}
+use Rattle.checks.proofs.ChecksLaws.{also, Every, first-every, Placed, first-at}
+use Rattle.checks.proofs.FileRows.{refused-read}
 use Rattle.answers.proofs.ContainTable.{contain-table}
 
 file-place : (n file : ℕ) → n ≤ 5 → containPlace (Refused n file) ≡ cond (eqb file 1) 0 1

@@ -25,7 +25,7 @@ use Rattle.answers.specs.declared.Comparison.the-variants.{Differs, NoRo
 use Rattle.answers.specs.Contain.{Contain, compareWith, comparing, afterWalk, refusing, deciding, containing, outcomeOf, workOf, wordBuffer}
 use Rattle.answers.specs.Table.{Both}
 use Rattle.answers.specs.Demand1.{slotsOver, FrontSlots, AfterContain, Demand1}
-use Rattle.answers.proofs.ChecksLaws.{by-test, by-read}
+use Rattle.checks.proofs.ChecksLaws.{by-test, by-read}
 use Rattle.answers.proofs.WalkRows.{whole-of, final-of}
 use Rattle.answers.proofs.ContainTable.{contain-table}
 use Rattle.answers.proofs.ContainAnswers.{contain-numbers}

@@ -19,7 +19,7 @@ use Rattle.graph.specs.Walks.{walkOf, wordOf}
 use Rattle.answers.specs.declared.Outcome.the-variants.{Compared}
 use Rattle.answers.specs.declared.Comparison.the-variants.{Differs, NoRoom}
 use Rattle.answers.specs.Contain.{Contain, compareWith, comparing, afterWalk, refusing, deciding, containing, partLength, outcomeOf}
-use Rattle.answers.proofs.ChecksLaws.{by-test, by-read}
+use Rattle.checks.proofs.ChecksLaws.{by-test, by-read}
 
 -- the two cases of a word
 written-room : (place len room : ℕ) (c : Bool) → leb len room ≡ c

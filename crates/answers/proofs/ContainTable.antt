@@ -21,13 +21,14 @@ use Rattle.graph.specs.Walks.{walkOf, wordOf}
 use Rattle.answers.specs.declared.Outcome.{Outcome}
 use Rattle.answers.specs.declared.Outcome.the-variants.{Refused, Compared}
 use Rattle.answers.specs.declared.Comparison.the-variants.{Differs, NoRoom}
-use Rattle.answers.specs.Checks.{First}
+use Rattle.checks.specs.Checks.{First}
 use Rattle.answers.specs.Contain.{Contain, contained, differs, noRoom, compareWith, afterWalk, comparing, deciding, containing, refusing, outcomeOf}
 use Rattle.answers.specs.Table.{containRows}
 use Rattle.graph.proofs.WalkTheorem.{walk-full}
-use Rattle.answers.proofs.FileRows.{file-dead, refused-by, refused-read, refusal-same, both-of, both-at, both-same}
+use Rattle.checks.proofs.FileRows.{refused-by, refused-read, refusal-same}
+use Rattle.answers.proofs.FileRows.{file-dead, both-of, both-at, both-same}
 use Rattle.answers.proofs.WalkRows.{whole-of, final-of, final-at, whole-same, final-same, going-not-final, ended-not-whole, going-enough, ended-enough}
-use Rattle.answers.proofs.ChecksLaws.{test-true, test-false, by-test, by-read, Functional, also, later, same-number, same-answer, same-answer₂, first-answer}
+use Rattle.checks.proofs.ChecksLaws.{test-true, test-false, by-test, by-read, Functional, also, later, same-number, same-answer, same-answer₂, first-answer}
 
 module _ (f g : List ℕ) (b : ℕ) (work word : List ℕ) where
   abbrev S : ℕ

@@ -28,11 +28,11 @@ use Rattle.graph.proofs.WalkTheorem.{walk-decides-containment, walk-decides-dif
 use Rattle.answers.specs.declared.Outcome.{Outcome}
 use Rattle.answers.specs.declared.Outcome.the-variants.{Refused, Compared}
 use Rattle.answers.specs.declared.Comparison.the-variants.{Differs, NoRoom}
-use Rattle.answers.specs.Checks.{None}
+use Rattle.checks.specs.Checks.{None}
 use Rattle.answers.specs.Contain.{contained, differs, noSlots, noRoom, compareWith, comparison, Contain, comparing, afterWalk, deciding, containing, outcomeOf, wordBuffer}
 use Rattle.answers.specs.Table.{Final, Whole, containRows}
 use Rattle.answers.specs.Demand2.{Passing, ListFits, Difference, Demand2}
-use Rattle.answers.proofs.ChecksLaws.{none-fewer}
+use Rattle.checks.proofs.ChecksLaws.{none-fewer}
 use Rattle.answers.proofs.FileRows.{file-dead, both-of}
 use Rattle.answers.proofs.WalkRows.{going-enough, ended-enough}
 use Rattle.answers.proofs.DifferenceWords.{written-shown}

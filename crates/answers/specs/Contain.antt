@@ -22,7 +22,7 @@ use Rattle.slots.specs.Slots.{slotCount}
 use Rattle.graph.specs.Discovery.{Walk, going, ended, full}
 use Rattle.graph.specs.LagGraph.{maxBound}
 use Rattle.graph.specs.Walks.{walkOf, workAfter, wordOf, wordAfter}
-use Rattle.answers.specs.Checks.{onRead}
+use Rattle.checks.specs.Checks.{onRead}
 use Rattle.answers.specs.declared.Comparison.{Comparison}
 use Rattle.answers.specs.declared.Comparison.the-variants.{Contained, Differs, NoSlots, NoRoom}
 use Rattle.answers.specs.declared.Outcome.{Outcome}

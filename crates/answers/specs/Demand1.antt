@@ -22,7 +22,7 @@ use Rattle.graph.specs.Walks.{slotsOf, wordOf}
 use Rattle.answers.specs.declared.Outcome.{Outcome}
 use Rattle.answers.specs.declared.Outcome.the-variants.{Refused, Compared}
 use Rattle.answers.specs.declared.Comparison.the-variants.{Contained, Differs, NoSlots, NoRoom}
-use Rattle.answers.specs.Checks.{First}
+use Rattle.checks.specs.Checks.{First}
 use Rattle.answers.specs.Contain.{outcomeOf, workOf, wordBuffer}
 use Rattle.answers.specs.Table.{Both, Final, Whole, containRows}
 

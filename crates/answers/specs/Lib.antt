@@ -1,5 +1,4 @@
 -- Contain (01, "Contain"): checks, answers, table, demands 1 and 2.
-pub mod Checks
 pub mod Contain
 pub mod Table
 pub mod Demand2

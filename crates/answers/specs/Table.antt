@@ -25,7 +25,7 @@ use Rattle.graph.specs.Walks.{wordOf, Fits, NeedsMore}
 use Rattle.answers.specs.declared.Comparison.the-variants.{Contained, Differs, NoSlots, NoRoom}
 use Rattle.answers.specs.declared.Outcome.{Outcome}
 use Rattle.answers.specs.declared.Outcome.the-variants.{Refused, Compared}
-use Rattle.answers.specs.Checks.{Row, answers, answersBy, answersBy₂}
+use Rattle.checks.specs.Checks.{Row, answers, answersBy, answersBy₂}
 use Rattle.answers.specs.Contain.{contained, differs, noSlots, noRoom}
 
 pub record Both (f g : List ℕ) (P : Automaton → Automaton → Type 0) : Type 0 where

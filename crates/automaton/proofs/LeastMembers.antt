@@ -1,5 +1,5 @@
 -- The least member of a byte: it is a member, none is lower, and it is the number of trailing zeros, since both go through the bits from the lowest
--- on. Assumes nothing.
+-- on; and so it is of numbers of any width. Assumes nothing.
 use mathlib.Core.Path.{_≡_, refl, sym, ap, _∙_}
 use mathlib.Core.Bool.{true, false}
 use Prim.Native.Nat.{ℕ, zero, suc, _+_, _/_, _%_, _^_, _<_}
@@ -34,9 +34,13 @@ trailing-next w (suc n) i =
     digit (w / 2 ^ i % 2) i (trailingZeros n (w / 2 ^ i / 2)) (nextFrom (bit w) n (suc i)) (omega arith)
     (ap (λ (x : ℕ). suc i + trailingZeros n x) (shr-shr w i 1 ∙ ap (λ (k : ℕ). w / 2 ^ k) (omega arith)) ∙ trailing-next w n (suc i))
 
+-- of the n lowest bits
+pub trailing-first : (n w : ℕ) → trailingZeros n w ≡ nextFrom (bit w) n 0
+trailing-first n w = let e : w ≡ w / 2 ^ 0 = omega arith in ap (trailingZeros n) e ∙ sym (zero-add _) ∙ trailing-next w n 0
+
 pub trailing-least : (w : ℕ) → trailingZeros 8 w ≡ leastMember w
 unfolding leastMember
-trailing-least w = let e : w ≡ w / 2 ^ 0 = omega arith in ap (trailingZeros 8) e ∙ sym (zero-add _) ∙ trailing-next w 8 0
+trailing-least w = trailing-first 8 w
 
 -- the values at the ends, and at a byte with two members
 pub least-ends : (leastMember 0 ≡ 8) × (leastMember 1 ≡ 0) × (leastMember 96 ≡ 5) × (leastMember 128 ≡ 7)

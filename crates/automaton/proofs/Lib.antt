@@ -6,5 +6,7 @@ pub mod Transitions
 pub mod InRange
 pub mod Bits
 pub mod LeastMembers
+pub mod Counts
+pub mod Lists
 pub mod EqualAutomata
 pub mod Rank

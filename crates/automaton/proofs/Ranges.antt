@@ -72,6 +72,24 @@ some-below f n t = let r = some-find f n 0 t in (r .0, omega (arith, r .1), r .2
 -- Next members.
 
 module _ (f : ℕ → Bool) where
+  pub next-from : (n i : ℕ) → i ≤ nextFrom f n i
+  unfolding nextFrom
+  next-from zero i = omega arith
+  next-from (suc n) i = go (f i) (next-from n (suc i))
+    where
+      go : (b : Bool) → suc i ≤ nextFrom f n (suc i) → i ≤ elim b [ true ↦ i | false ↦ nextFrom f n (suc i) ]
+      go true h = omega arith
+      go false h = omega arith
+
+  pub next-to : (n i : ℕ) → nextFrom f n i ≤ i + n
+  unfolding nextFrom
+  next-to zero i = omega arith
+  next-to (suc n) i = go (f i) (next-to n (suc i))
+    where
+      go : (b : Bool) → nextFrom f n (suc i) ≤ suc i + n → elim b [ true ↦ i | false ↦ nextFrom f n (suc i) ] ≤ i + suc n
+      go true h = omega arith
+      go false h = omega arith
+
   pub next-holds : (n i : ℕ) → nextFrom f n i < i + n → f (nextFrom f n i) ≡ true
   unfolding nextFrom
   next-holds zero i h = absurd (omega arith)
@@ -121,6 +139,14 @@ module _ (f : ℕ → Bool) where
     where
       go : (n k : ℕ) → n ≡ suc k → nextFrom f n t ≡ t
       go n k q = ap (λ (x : ℕ). nextFrom f x t) q ∙ ap (λ (b : Bool). elim b [ true ↦ t | false ↦ nextFrom f k (suc t) ]) e
+
+-- tests that agree over a range have the same next member
+pub next-same : (f g : ℕ → Bool) (n i : ℕ) → ((k : ℕ) → i ≤ k → k < i + n → f k ≡ g k) → nextFrom f n i ≡ nextFrom g n i
+unfolding nextFrom
+next-same f g zero i e = refl
+next-same f g (suc n) i e =
+    ap (λ (b : Bool). elim b [ true ↦ i | false ↦ nextFrom f n (suc i) ]) (e i (omega arith) (omega arith))
+    ∙ ap (λ (x : ℕ). elim (g i) [ true ↦ i | false ↦ x ]) (next-same f g n (suc i) (λ k p q. e k (omega arith) (omega arith)))
 
 -- Lists of the numbers that pass.
 

@@ -3,13 +3,14 @@
 --   some f n i      f holds at one of them
 --   nextFrom f n i  the least of them at which f holds; the number after them where there is none
 --   those f n i     those of them at which f holds, lowest first
+--   chained f n i   the lists f of each of them, one after the other
 --   table f n i     f of each of them
 --   largest f n i   the largest value of f at them; of none it is 0
 --   total f n i     the sum of f over them
--- Shown by `some-at` and `some-below`, `next-holds`, `next-before` and `next-none`, `those-has` and `those-pass`, `table-at`, `largest-ub` and
--- `largest-at`. Assumes nothing.
+-- Shown by `some-at` and `some-below`, `next-holds`, `next-before` and `next-none`, `those-has` and `those-pass`, `chained-has` and `chained-from`,
+-- `table-at`, `largest-ub` and `largest-at`. Assumes nothing.
 use mathlib.Core.Bool.{Bool, true, false, _||_}
-use mathlib.Core.List.{List, [], _∷_}
+use mathlib.Core.List.{List, [], _∷_, _++_}
 use Prim.Native.Nat.{ℕ, zero, suc, _+_, max}
 
 unfoldable pub some : (ℕ → Bool) → ℕ → ℕ → Bool
@@ -23,6 +24,10 @@ nextFrom f (suc n) i = elim (f i) [ true ↦ i | false ↦ nextFrom f n (suc i) 
 unfoldable pub those : (ℕ → Bool) → ℕ → ℕ → List ℕ
 those f zero i = []
 those f (suc n) i = elim (f i) [ true ↦ i ∷ those f n (suc i) | false ↦ those f n (suc i) ]
+
+unfoldable pub chained : {X : Type 0} → (ℕ → List X) → ℕ → ℕ → List X
+chained f zero i = []
+chained f (suc n) i = f i ++ chained f n (suc i)
 
 unfoldable pub table {ℓ} : {A : Type ℓ} → (ℕ → A) → ℕ → ℕ → List A
 table f zero i = []

@@ -4,3 +4,4 @@ pub mod NumberLaws
 pub mod AnswerNumbers
 pub mod ContainNumber
 pub mod OutcomeSizes
+pub mod WriteNumber

@@ -1,4 +1,5 @@
--- The numbers that vendors get for the answers of contain, open, offer and verdict (01, "Contain"; docs/reference.md, "The boundary for vendors").
+-- The numbers that vendors get for the answers of contain, open, offer and verdict (01, "Contain"; docs/reference.md, "The boundary for vendors"), and of
+-- a call that writes a file (02, S-1).
 --   outcomeNumber   kind + 2^8 count + 2^24 length; kind 0 contained, 1 differs, 100 + n refusal n; the count of 1-6 is the file's number,
 --                   that of 10 the slots; the length of 11 is what the word needs; a part that an answer lacks is 0
 --   openNumber      0 opened, 100 plus a refusal's number
@@ -6,13 +7,16 @@
 --                   100 + n refusal n; the walk is 1 or 2 with refusals 10 and 11; the count of 10 is the slots, at its walk's
 --                   place; the length of 11 is what the word needs; a part that an answer lacks is 0
 --   verdictNumber   0 no, 1 yes, 100 plus a refusal's number
--- Shown by `contain-number`, `open-number`, `offer-number` and `verdict-number`. Assumes nothing.
+--   writeNumber     kind + 2^8 length; kind 0 written, 100 + n refusal n, 116 with the length needed
+-- Shown by `contain-number`, `open-number`, `offer-number`, `verdict-number` and `write-number`. Assumes nothing.
 use Prim.Native.Nat.{ℕ, _+_, _*_, _^_}
 use lib.Dec.{eqb}
 use mathlib.Core.Bool.{cond}
 use Rattle.answers.specs.declared.Comparison.the-variants.{Contained, Differs, NoSlots as Unslotted, NoRoom as Roomless}
 use Rattle.answers.specs.declared.Outcome.{Outcome}
 use Rattle.answers.specs.declared.Outcome.the-variants.{Refused as Stopped, Compared}
+use Rattle.fixed_form.specs.declared.WriteAnswer.{WriteAnswer}
+use Rattle.fixed_form.specs.declared.WriteAnswer.the-variants.{Wrote, Refused as WriteRefused, NoRoom as WriteRoomless}
 use Rattle.history.specs.declared.OpenAnswer.{OpenAnswer}
 use Rattle.history.specs.declared.OpenAnswer.the-variants.{Opened, Refused as OpenRefused}
 use Rattle.history.specs.declared.OfferAnswer.{OfferAnswer}
@@ -49,3 +53,8 @@ abbrev pub verdictNumber : VerdictAnswer → ℕ
 verdictNumber No = 0
 verdictNumber Yes = 1
 verdictNumber (VerdictRefused n) = 100 + n
+
+abbrev pub writeNumber : WriteAnswer → ℕ
+writeNumber (Wrote len) = 256 * len
+writeNumber (WriteRefused n) = 100 + n
+writeNumber (WriteRoomless len) = 116 + 256 * len

@@ -1,6 +1,7 @@
 // The numbers that stand for answers.
 use answers::Comparison;
 use answers::Outcome;
+use fixed_form::WriteAnswer;
 use history::OfferAnswer;
 use history::OpenAnswer;
 use history::VerdictAnswer;
@@ -8,7 +9,7 @@ ghost use mathlib.Core.Path.{_≡_};
 ghost use Prim.Native.Nat.{_<_, _^_};
 ghost use Rattle.answers.specs.declared.Outcome.the-variants.{Compared};
 ghost use Rattle.history.specs.declared.OfferAnswer.the-variants.{NoSlots};
-ghost use Rattle.boundary.specs.Numbers.{packed, outcomeNumber, openNumber, packedOffer, offerNumber, verdictNumber};
+ghost use Rattle.boundary.specs.Numbers.{packed, outcomeNumber, openNumber, packedOffer, offerNumber, verdictNumber, writeNumber};
 
 // Kind, count and word length in one number.
 fn packed(kind: usize, count: usize, len: usize) -> u64
@@ -101,5 +102,17 @@ pub fn verdict_number(answer: VerdictAnswer) -> u64
         VerdictAnswer::Yes => 1,
         VerdictAnswer::No => 0,
         VerdictAnswer::Refused(number) => 100 + (number as u64),
+    }
+}
+
+// The number of what a call that writes a file answers.
+pub fn write_number(answer: WriteAnswer) -> u64
+    requires { ⌜ writeNumber answer < 2 ^ 64 ⌝ }
+    ensures { λ r. ⌜ r ≡ writeNumber answer ⌝ }
+{
+    match answer {
+        WriteAnswer::Wrote(len) => 256 * (len as u64),
+        WriteAnswer::Refused(number) => 100 + (number as u64),
+        WriteAnswer::NoRoom(len) => 116 + 256 * (len as u64),
     }
 }

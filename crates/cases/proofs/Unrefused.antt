@@ -17,7 +17,7 @@ use Rattle.deadstates.specs.DeadEnds as ends
 use Rattle.slots.specs.Slots as slots
 use Rattle.graph.specs.LagGraph as graph
 use Rattle.graph.specs.Walks as walks
-use Rattle.answers.specs.Checks.{None, onRead}
+use Rattle.checks.specs.Checks.{None, onRead}
 use Rattle.answers.specs.Contain as contain
 use Rattle.history.specs.declared.Entry.{Entry}
 use Rattle.history.specs.declared.OfferAnswer.the-variants.{Taken}

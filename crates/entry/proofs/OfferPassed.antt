@@ -9,7 +9,7 @@ use lib.Dec.{ltb}
 use Rattle.automaton.specs.declared.Automaton.{Automaton}
 use Rattle.format.specs.File.{refused, holds, readFile}
 use Rattle.graph.specs.LagGraph.{maxBound}
-use Rattle.answers.proofs.ChecksLaws.{by-test}
+use Rattle.checks.proofs.ChecksLaws.{by-test}
 use Rattle.history.specs.declared.Entry.{Entry}
 use Rattle.history.specs.Entries.{malformed}
 use Rattle.history.specs.Opens.{Vetted, stopped, passed}

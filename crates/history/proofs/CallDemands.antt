@@ -17,7 +17,7 @@ use Rattle.slots.specs.Slots.{slotCount}
 use Rattle.graph.specs.Discovery.{Walk, going, ended, full}
 use Rattle.graph.specs.Walks.{walkOf, workAfter, wordOf}
 use Rattle.answers.specs.Demand1.{slotsOver}
-use Rattle.answers.proofs.ChecksLaws.{by-test, by-read}
+use Rattle.checks.proofs.ChecksLaws.{by-test, by-read}
 use Rattle.answers.proofs.WalkRows.{whole-of, final-of}
 use Rattle.answers.proofs.ContainDemand.{full-front}
 use Rattle.history.specs.declared.Entry.{Entry}
@@ -29,7 +29,7 @@ use Rattle.history.proofs.OfferCases.{giving, walked, by-offer}
 use Rattle.history.specs.OpenDemand.{AfterOpen, OpenDemand1}
 use Rattle.history.specs.OfferDemand.{AfterOffer, OfferDemand1}
 use Rattle.history.specs.VerdictDemand.{VerdictDemand1}
-use Rattle.history.proofs.FileConditions.{file-of}
+use Rattle.checks.proofs.FileRows.{file-of}
 use Rattle.history.proofs.OpenTable.{open-table}
 use Rattle.history.proofs.OfferTable.{offer-table}
 use Rattle.history.proofs.VerdictTable.{verdict-table}

@@ -12,8 +12,8 @@ use Rattle.automaton.specs.declared.Automaton.{Automaton}
 use Rattle.automaton.specs.Automata.{one}
 use Rattle.automaton.proofs.Booleans.{clash}
 use Rattle.format.proofs.FileLaws.{read-same}
-use Rattle.answers.specs.Checks.{First, None}
-use Rattle.answers.proofs.ChecksLaws.{none-first}
+use Rattle.checks.specs.Checks.{First, None}
+use Rattle.checks.proofs.ChecksLaws.{none-first}
 use Rattle.history.specs.declared.Entry.{Entry}
 use Rattle.history.specs.declared.OpenAnswer.the-variants.{Opened}
 use Rattle.history.specs.declared.OfferAnswer.the-variants.{Refused}

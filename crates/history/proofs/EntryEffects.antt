@@ -9,7 +9,7 @@ use Rattle.automaton.specs.declared.Automaton.{Automaton}
 use Rattle.format.specs.File.{holds, readFile}
 use Rattle.format.proofs.FileLaws.{read-same}
 use Rattle.deadstates.specs.DeadEnds.{hasDead}
-use Rattle.answers.proofs.ChecksLaws.{by-test, by-read}
+use Rattle.checks.proofs.ChecksLaws.{by-test, by-read}
 use Rattle.history.specs.declared.Entry.{Entry}
 use Rattle.history.specs.declared.OpenAnswer.the-variants.{Opened, Refused}
 use Rattle.history.specs.Entries.{malformed}

@@ -1,7 +1,6 @@
 -- Laws of entries, what open, offer and verdict answer and leave, and demand 3.
 pub mod EntryLaws
 pub mod EntryChecks
-pub mod FileConditions
 pub mod OpenTable
 pub mod OfferWalks
 pub mod OfferCases

@@ -11,7 +11,7 @@ use borrow.Author.Tests.{le-leb}
 use lib.Dec.{eqb}
 use lib.ListN.{length, take}
 use Rattle.format.proofs.FileLaws.{file-refusals}
-use Rattle.answers.proofs.FileRows.{refused-read}
+use Rattle.checks.proofs.FileRows.{refused-read}
 use Rattle.slots.specs.Slots.{slotCount}
 use Rattle.automaton.specs.declared.Automaton.{Automaton}
 use Rattle.slots.specs.declared.Vertex.{Vertex}
@@ -19,8 +19,8 @@ use Rattle.graph.specs.Discovery.{Node}
 use Rattle.graph.specs.Walks.{wordOf}
 use Rattle.graph.proofs.WalkTheorem.{list-word-length}
 use Rattle.answers.specs.Table.{Final, FinalAt, NoneFinal}
-use Rattle.answers.specs.Checks.{None, At}
-use Rattle.answers.proofs.ChecksLaws.{also, Every, first-every, Placed, first-at}
+use Rattle.checks.specs.Checks.{None, At}
+use Rattle.checks.proofs.ChecksLaws.{also, Every, first-every, Placed, first-at}
 use Rattle.history.specs.declared.Entry.{Entry}
 use Rattle.history.specs.declared.OfferAnswer.{OfferAnswer}
 use Rattle.history.specs.declared.OfferAnswer.the-variants.{Refused}

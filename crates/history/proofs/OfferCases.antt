@@ -15,7 +15,7 @@ use Rattle.slots.specs.Slots.{slotCount}
 use Rattle.graph.specs.Discovery.{Walk}
 use Rattle.graph.specs.LagGraph.{maxBound}
 use Rattle.graph.specs.Walks.{walkOf}
-use Rattle.answers.proofs.ChecksLaws.{by-test, by-read}
+use Rattle.checks.proofs.ChecksLaws.{by-test, by-read}
 use Rattle.history.specs.declared.Entry.{Entry}
 use Rattle.history.specs.declared.OfferAnswer.{OfferAnswer}
 use Rattle.history.specs.Entries.{maxEdition, WellFormed, malformed, smaller}

@@ -14,8 +14,8 @@ use Rattle.slots.specs.declared.Vertex.{Vertex}
 use Rattle.graph.specs.Discovery.{Node}
 use Rattle.graph.proofs.WalkTheorem.{walk-ended, list-contained, walk-decides-difference}
 use Rattle.answers.specs.Table.{Final, Whole}
-use Rattle.answers.specs.Checks.{First, None}
-use Rattle.answers.proofs.ChecksLaws.{also, none-first, first-append-cases, first-every}
+use Rattle.checks.specs.Checks.{First, None}
+use Rattle.checks.proofs.ChecksLaws.{also, none-first, first-append-cases, first-every}
 use Rattle.history.specs.declared.Entry.{Entry}
 use Rattle.history.specs.declared.OfferAnswer.{OfferAnswer}
 use Rattle.history.specs.declared.OfferAnswer.the-variants.{Refused}

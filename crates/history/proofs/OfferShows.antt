@@ -22,10 +22,10 @@ use Rattle.answers.proofs.DifferenceWords.{written-shown}
 use Rattle.history.specs.declared.Entry.{Entry}
 use Rattle.history.specs.declared.OfferAnswer.the-variants.{Forward, Back, NoRoom}
 use Rattle.history.specs.Offers.{Offer, offerOf}
-use Rattle.history.specs.Tables.{FileHolds}
+use Rattle.checks.specs.Checks.{FileHolds}
 use Rattle.history.proofs.OfferWalks.{answerBy, wordBy}
 use Rattle.history.proofs.OfferCases.{by-offer}
-use Rattle.history.proofs.FileConditions.{file-of}
+use Rattle.checks.proofs.FileRows.{file-of}
 
 -- what an answer with a word says of the test for room
 record Roomy (c : Bool) (i j len size : ℕ) : Type 0 where

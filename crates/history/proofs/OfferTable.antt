@@ -21,9 +21,9 @@ use Rattle.graph.specs.Discovery.{Node, Walk, going, ended, full}
 use Rattle.graph.specs.LagGraph.{maxBound}
 use Rattle.graph.specs.Walks.{walkOf, wordOf}
 use Rattle.graph.proofs.WalkTheorem.{walk-full}
-use Rattle.answers.specs.Checks.{First}
-use Rattle.answers.proofs.ChecksLaws.{by-test, by-read, test-true, test-false, Functional, also, later, same-number, same-answer, same-answer₂, same-answer₃, first-answer}
-use Rattle.answers.proofs.FileRows.{file-dead, refused-by, refused-read, refusal-same}
+use Rattle.checks.specs.Checks.{First}
+use Rattle.checks.proofs.ChecksLaws.{by-test, by-read, test-true, test-false, Functional, also, later, same-number, same-answer, same-answer₂, same-answer₃, first-answer}
+use Rattle.answers.proofs.FileRows.{file-dead}
 use Rattle.answers.proofs.WalkRows.{whole-of, final-of, whole-at, final-at, whole-same, final-same, going-not-final, ended-not-whole, going-enough, ended-enough}
 use Rattle.history.specs.declared.Entry.{Entry}
 use Rattle.history.specs.declared.OfferAnswer.{OfferAnswer}
@@ -35,7 +35,7 @@ use Rattle.history.specs.Tables.{offerRows}
 use Rattle.history.proofs.EntryLaws.{malformed-iff, smaller-iff}
 use Rattle.history.proofs.EntryChecks.{passed-well-formed}
 use Rattle.history.proofs.OfferWalks.{answerBy, walks-settled}
-use Rattle.history.proofs.FileConditions.{file-of, file-at, file-same}
+use Rattle.checks.proofs.FileRows.{refused-by, refused-read, refusal-same, file-of, file-at, file-same}
 
 -- condition 14 and its test
 unfit-iff : (E : Entry) (B : Automaton) → T (not (smaller B (E .held)) || eqb (E .edition) maxEdition)

@@ -9,9 +9,9 @@ use borrow.Author.Tests.{le-leb}
 use lib.Dec.{eqb}
 use lib.ListN.{take}
 use Rattle.format.proofs.FileLaws.{file-refusals}
-use Rattle.answers.proofs.FileRows.{refused-read}
-use Rattle.answers.specs.Checks.{None, At}
-use Rattle.answers.proofs.ChecksLaws.{also, Every, first-every, Placed, first-at}
+use Rattle.checks.proofs.FileRows.{refused-read}
+use Rattle.checks.specs.Checks.{None, At}
+use Rattle.checks.proofs.ChecksLaws.{also, Every, first-every, Placed, first-at}
 use Rattle.history.specs.declared.Entry.{Entry}
 use Rattle.history.specs.declared.OpenAnswer.{OpenAnswer}
 use Rattle.history.specs.declared.OpenAnswer.the-variants.{Refused}

@@ -10,8 +10,8 @@ use Rattle.automaton.specs.declared.Automaton.{Automaton}
 use Rattle.runs.specs.DeadStates.{Dead}
 use Rattle.automaton.proofs.Booleans.{T-true, not-T-false, clash}
 use Rattle.format.proofs.FileLaws.{read-same, read-not-both}
-use Rattle.answers.specs.Checks.{First}
-use Rattle.answers.proofs.FileRows.{refused-read}
+use Rattle.checks.specs.Checks.{First}
+use Rattle.checks.proofs.FileRows.{refused-read}
 use Rattle.history.specs.declared.Entry.{Entry}
 use Rattle.history.specs.declared.OpenAnswer.the-variants.{Opened, Refused}
 use Rattle.history.specs.Opens.{openOf, firstEdition}

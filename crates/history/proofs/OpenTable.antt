@@ -8,9 +8,9 @@ use Rattle.automaton.proofs.Booleans.{clash}
 use Rattle.format.specs.File.{readFile}
 use Rattle.format.proofs.FileLaws.{read-not-both}
 use Rattle.deadstates.specs.DeadEnds.{hasDead}
-use Rattle.answers.specs.Checks.{First}
-use Rattle.answers.proofs.ChecksLaws.{by-test, by-read, test-true, test-false, Functional, also, later, same-answer, first-answer}
-use Rattle.answers.proofs.FileRows.{file-dead, refused-by, refused-read, refusal-same}
+use Rattle.checks.specs.Checks.{First}
+use Rattle.checks.proofs.ChecksLaws.{by-test, by-read, test-true, test-false, Functional, also, later, same-answer, first-answer}
+use Rattle.answers.proofs.FileRows.{file-dead}
 use Rattle.history.specs.declared.Entry.{Entry}
 use Rattle.history.specs.declared.OpenAnswer.{OpenAnswer}
 use Rattle.history.specs.declared.OpenAnswer.the-variants.{Refused}
@@ -18,7 +18,7 @@ use Rattle.history.specs.Entries.{malformed}
 use Rattle.history.specs.Opens.{stopped, Vetted, openChecks, opened, openOf}
 use Rattle.history.specs.Tables.{openRows}
 use Rattle.history.proofs.EntryLaws.{malformed-iff}
-use Rattle.history.proofs.FileConditions.{file-of, file-at}
+use Rattle.checks.proofs.FileRows.{refused-by, refused-read, refusal-same, file-of, file-at}
 
 module _ (E : Entry) (f : List ℕ) where
   -- the answer of the rows from k on is what the checks come to

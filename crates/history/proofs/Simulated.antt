@@ -10,8 +10,8 @@ use Rattle.runs.specs.Simulation.{SimulateEachOther}
 use Rattle.runs.proofs.Simulation.{direct-simulation-contained}
 use Rattle.format.specs.File.{holds, readFile}
 use Rattle.format.proofs.FileLaws.{read-same}
-use Rattle.answers.specs.Checks.{First, None}
-use Rattle.answers.proofs.ChecksLaws.{none-first}
+use Rattle.checks.specs.Checks.{First, None}
+use Rattle.checks.proofs.ChecksLaws.{none-first}
 use Rattle.history.specs.declared.Entry.{Entry}
 use Rattle.history.specs.Offers.{offerOf, isTaken}
 use Rattle.history.specs.Tables.{offerRefusals}

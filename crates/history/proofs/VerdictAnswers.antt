@@ -5,8 +5,8 @@ use mathlib.Core.Logic.{_↔_}
 use mathlib.Core.List.{List}
 use Prim.Native.Nat.{ℕ}
 use lib.ListN.{take}
-use Rattle.answers.specs.Checks.{None, At}
-use Rattle.answers.proofs.ChecksLaws.{also, Every, first-every, Placed, first-at}
+use Rattle.checks.specs.Checks.{None, At}
+use Rattle.checks.proofs.ChecksLaws.{also, Every, first-every, Placed, first-at}
 use Rattle.history.specs.declared.Entry.{Entry}
 use Rattle.history.specs.declared.VerdictAnswer.{VerdictAnswer}
 use Rattle.history.specs.Verdicts.{verdictOf}

@@ -10,8 +10,8 @@ use lib.ListN.{drop}
 use Rattle.automaton.proofs.Booleans.{clash}
 use Rattle.lassos.specs.Verdict.{accepted}
 use Rattle.lassos.proofs.VerdictTheorem.{verdict-decides-acceptance}
-use Rattle.answers.specs.Checks.{First}
-use Rattle.answers.proofs.ChecksLaws.{test-true, test-false, by-test, Functional, also, later, first-answer}
+use Rattle.checks.specs.Checks.{First}
+use Rattle.checks.proofs.ChecksLaws.{test-true, test-false, by-test, Functional, also, later, first-answer}
 use Rattle.history.specs.declared.Entry.{Entry}
 use Rattle.history.specs.declared.VerdictAnswer.{VerdictAnswer}
 use Rattle.history.specs.declared.VerdictAnswer.the-variants.{Yes, No, Refused}

@@ -21,7 +21,7 @@ use Rattle.automaton.specs.declared.Automaton.{Automaton}
 use Rattle.runs.specs.DeadStates.{Dead}
 use Rattle.runs.specs.Containment.{Contained}
 use Rattle.format.specs.File.{holds, readFile}
-use Rattle.answers.specs.Checks.{None}
+use Rattle.checks.specs.Checks.{None}
 use Rattle.history.specs.declared.Entry.{Entry}
 use Rattle.history.specs.Tables.{offerRefusals}
 use Rattle.history.specs.Calls.{Call, openCall, offerCall}

@@ -14,7 +14,7 @@ use Rattle.automaton.specs.declared.Automaton.{Automaton}
 use Rattle.runs.specs.Containment.{Contained}
 use Rattle.runs.specs.Lassos.{Accepted}
 use Rattle.format.specs.File.{holds, readFile}
-use Rattle.answers.specs.Checks.{First, None}
+use Rattle.checks.specs.Checks.{First, None}
 use Rattle.history.specs.declared.Entry.{Entry}
 use Rattle.history.specs.declared.OpenAnswer.the-variants.{Opened}
 use Rattle.history.specs.Entries.{maxEdition, WellFormed, Smaller}

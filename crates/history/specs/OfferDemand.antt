@@ -13,14 +13,14 @@ use lib.ListN.{length, drop}
 use Rattle.slots.specs.Slots.{slotCount}
 use Rattle.graph.specs.Walks.{wordOf}
 use Rattle.format.specs.Refusals.{ReadsAs}
-use Rattle.answers.specs.Checks.{First}
+use Rattle.checks.specs.Checks.{First, FileHolds}
 use Rattle.answers.specs.Table.{Final, Whole}
 use Rattle.answers.specs.Demand1.{slotsOver, FrontSlots}
 use Rattle.history.specs.declared.Entry.{Entry}
 use Rattle.history.specs.declared.OfferAnswer.{OfferAnswer}
 use Rattle.history.specs.declared.OfferAnswer.the-variants.{Taken, Forward, Back, Refused, NoSlots, NoRoom}
 use Rattle.history.specs.Offers.{offerOf, nextEdition}
-use Rattle.history.specs.Tables.{FileHolds, offerRows}
+use Rattle.history.specs.Tables.{offerRows}
 
 -- before the walks
 pub data OfferRefusal : ℕ → Type 0 where

@@ -20,7 +20,7 @@ use Rattle.deadstates.specs.DeadEnds.{hasDead}
 use Rattle.graph.specs.LagGraph.{maxBound}
 use Rattle.answers.specs.declared.Comparison.{Comparison}
 use Rattle.answers.specs.declared.Comparison.the-variants.{Contained, Differs, NoSlots as Unslotted, NoRoom as Roomless}
-use Rattle.answers.specs.Checks.{onRead}
+use Rattle.checks.specs.Checks.{onRead}
 use Rattle.answers.specs.Contain.{Compare, comparing}
 use Rattle.history.specs.declared.Entry.{Entry}
 use Rattle.history.specs.declared.OfferAnswer.{OfferAnswer}

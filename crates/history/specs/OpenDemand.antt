@@ -5,12 +5,12 @@ use mathlib.Core.List.{List}
 use mathlib.Core.Logic.{_↔_}
 use Prim.Native.Nat.{ℕ, _≤_}
 use Rattle.format.specs.Refusals.{ReadsAs}
-use Rattle.answers.specs.Checks.{First}
+use Rattle.checks.specs.Checks.{First, FileHolds}
 use Rattle.history.specs.declared.Entry.{Entry}
 use Rattle.history.specs.declared.OpenAnswer.{OpenAnswer}
 use Rattle.history.specs.declared.OpenAnswer.the-variants.{Opened, Refused}
 use Rattle.history.specs.Opens.{openOf, firstEdition}
-use Rattle.history.specs.Tables.{FileHolds, openRows}
+use Rattle.history.specs.Tables.{openRows}
 
 pub data OpenRefusal : ℕ → Type 0 where
   malformed-entry : OpenRefusal 9

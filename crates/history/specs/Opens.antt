@@ -10,7 +10,7 @@ use Prim.Native.Nat.{ℕ}
 use Rattle.automaton.specs.declared.Automaton.{Automaton}
 use Rattle.format.specs.File.{readFile}
 use Rattle.deadstates.specs.DeadEnds.{hasDead}
-use Rattle.answers.specs.Checks.{onRead}
+use Rattle.checks.specs.Checks.{onRead}
 use Rattle.history.specs.declared.Entry.{Entry}
 use Rattle.history.specs.declared.OpenAnswer.{OpenAnswer}
 use Rattle.history.specs.declared.OpenAnswer.the-variants.{Opened, Refused}

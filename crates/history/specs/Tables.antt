@@ -1,7 +1,6 @@
 -- What open, offer and verdict answer under which condition, in the order of the checks (01, the table of refusals and "Entry, open,
 -- offer"). Each row's condition stands on its own, so that `None (offerRefusals ..)` says that no refusal of the offer applies.
 --   Malformed E       condition 9, of an open entry
---   FileHolds f P     the file can be read, and P holds of its automaton
 --   openRows          9, 12, 1-5, 6; then opened
 --   offerRefusals     9, 13, 1-5, 8, 7, 6, 14, forward 10 and 11, back 10 and 11
 --   offerOutcomes     forward, back, taken
@@ -17,12 +16,11 @@ use lib.Dec.{eqb, leb}
 use lib.ListN.{length}
 use Rattle.automaton.specs.declared.Automaton.{Automaton}
 use Rattle.runs.specs.Lassos.{Accepted}
-use Rattle.format.specs.File.{holds, readFile}
 use Rattle.format.specs.Refusals.{Refusal}
 use Rattle.slots.specs.Slots.{slotCount}
 use Rattle.graph.specs.LagGraph.{maxBound}
 use Rattle.graph.specs.Walks.{NeedsMore}
-use Rattle.answers.specs.Checks.{Row, answers, answersBy, answersBy₂, answersBy₃}
+use Rattle.checks.specs.Checks.{Row, answers, answersBy, answersBy₂, answersBy₃, FileHolds}
 use Rattle.answers.specs.Table.{Whole, HasDead, TooLong, FinalAt, NoneFinal}
 use Rattle.history.specs.declared.Entry.{Entry}
 use Rattle.history.specs.declared.OpenAnswer.{OpenAnswer}
@@ -37,11 +35,6 @@ use Rattle.history.specs.Verdicts.{BadLasso}
 -- of an empty entry no field is examined
 abbrev pub Malformed : Entry → Type 0
 Malformed E = (E .filled ≡ true) × (WellFormed E → ⊥)
-
-pub record FileHolds (f : List ℕ) (P : Automaton → Type 0) : Type 0 where
-  pub automaton : Automaton
-  pub read : readFile f ≡ holds automaton
-  pub condition : P automaton
 
 -- the row of refusal n, of open, offer and verdict
 abbrev pub openRefuses : ℕ → Type 0 → Row OpenAnswer

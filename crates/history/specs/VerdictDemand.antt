@@ -4,7 +4,7 @@ use mathlib.Core.Path.{_≡_}
 use mathlib.Core.List.{List}
 use mathlib.Core.Logic.{_↔_}
 use Prim.Native.Nat.{ℕ}
-use Rattle.answers.specs.Checks.{First}
+use Rattle.checks.specs.Checks.{First}
 use Rattle.history.specs.declared.Entry.{Entry}
 use Rattle.history.specs.declared.VerdictAnswer.{VerdictAnswer}
 use Rattle.history.specs.declared.VerdictAnswer.the-variants.{Yes, No, Refused}

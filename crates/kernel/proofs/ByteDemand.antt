@@ -18,7 +18,7 @@ use Rattle.format.proofs.FileLaws.{file-whole}
 use Rattle.deadstates.specs.DeadEnds.{hasDead}
 use Rattle.lassos.specs.Verdict.{accepted}
 use Rattle.lassos.proofs.VerdictTheorem.{verdict-decides-acceptance}
-use Rattle.answers.proofs.ChecksLaws.{by-test, by-read}
+use Rattle.checks.proofs.ChecksLaws.{by-test, by-read}
 use Rattle.history.specs.declared.Entry.{Entry}
 use Rattle.history.specs.declared.OfferAnswer.{OfferAnswer}
 use Rattle.history.specs.declared.OfferAnswer.the-variants.{Taken, Forward, Back, Refused, NoSlots, NoRoom}

@@ -29,7 +29,7 @@ use Rattle.history.specs.Offers.{Offer, isTaken, offerOf, nextEdition}
 use Rattle.history.proofs.OfferCases.{by-offer}
 use Rattle.boundary.specs.Bytes.{entryLength, isEntry, entryOf, FitsBytes}
 use Rattle.boundary.specs.Numbers.{openNumber, offerNumber, verdictNumber}
-use Rattle.answers.proofs.ChecksLaws.{by-test, by-read}
+use Rattle.checks.proofs.ChecksLaws.{by-test, by-read}
 use Rattle.history.specs.VerdictDemand.{VerdictRefusal, malformed-entry, empty-entry, bad-lasso, VerdictListed}
 use Rattle.history.proofs.VerdictAnswers.{verdict-numbers}
 use Rattle.history.specs.OpenDemand.{OpenRefusal, already-open, bad-file, dead-state, OpenListed}

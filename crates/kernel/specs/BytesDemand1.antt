@@ -1,8 +1,8 @@
 -- Demand 1 of the calls that vendors make. Contain: that of the call, and its number. The calls on an entry's bytes: bytes that are no entry
 -- are condition 9 and nothing changes; on the bytes of an entry the call has demand 1 of open, offer or verdict, opened and taken alone
 -- write the entry, and the number is the answer's. Every number fits 64 bits and tells the whole answer: no two answers that can occur
--- have the same one. Shown by `contain-call-demand-1`, `entry-open-demand-1`, `entry-offer-demand-1` and `entry-verdict-demand-1`. Assumes
--- nothing.
+-- have the same one. The call that writes a file (02, S-1) has its demand 1, and a number likewise. Shown by `contain-call-demand-1`,
+-- `entry-open-demand-1`, `entry-offer-demand-1`, `entry-verdict-demand-1` and `file-write-demand-1`. Assumes nothing.
 use mathlib.Core.Path.{_≡_}
 use mathlib.Core.Bool.{true, false}
 use mathlib.Core.List.{List}
@@ -10,6 +10,9 @@ use mathlib.Core.Logic.{_↔_}
 use Prim.Native.Nat.{ℕ, _^_, _<_}
 use lib.ListN.{length}
 use Rattle.slots.specs.Slots.{slotCount}
+use Rattle.fixed_form.specs.declared.WriteAnswer.{WriteAnswer}
+use Rattle.fixed_form.specs.Write.{writeOf}
+use Rattle.fixed_form.specs.WriteDemand.{WriteListed, WriteDemand1}
 use Rattle.answers.specs.declared.Outcome.{Outcome}
 use Rattle.answers.specs.Contain.{outcomeOf}
 use Rattle.answers.specs.Demand1.{Listed, Demand1}
@@ -20,7 +23,7 @@ use Rattle.history.specs.Opens.{openOf}
 use Rattle.history.specs.Offers.{isTaken, offerOf}
 use Rattle.history.specs.Verdicts.{verdictOf}
 use Rattle.boundary.specs.Bytes.{isEntry, entryOf}
-use Rattle.boundary.specs.Numbers.{outcomeNumber, openNumber, offerNumber, verdictNumber}
+use Rattle.boundary.specs.Numbers.{outcomeNumber, openNumber, offerNumber, verdictNumber, writeNumber}
 use Rattle.history.specs.OpenDemand.{OpenDemand1}
 use Rattle.history.specs.OfferDemand.{OfferListed, OfferDemand1}
 use Rattle.history.specs.VerdictDemand.{VerdictDemand1}
@@ -60,3 +63,10 @@ pub record EntryVerdictDemand1 (s u v : List ℕ) : Type 0 where
   pub number : isEntry s ≡ true → verdictBytesNumber s u v ≡ verdictNumber (verdictOf (entryOf s) u v)
   pub fits : verdictBytesNumber s u v < 2 ^ 64
   pub tells : isEntry s ≡ true → (x : VerdictAnswer) → (verdictBytesNumber s u v ≡ verdictNumber x) ↔ (verdictOf (entryOf s) u v ≡ x)
+
+pub record FileWriteDemand1 (f out : List ℕ) : Type 0 where
+  pub call : WriteDemand1 f out
+  pub fits : writeNumber (writeOf f out .answer) < 2 ^ 64
+  -- whatever the buffer's length: who has the number alone knows the answer
+  pub tells : (room : ℕ) (x : WriteAnswer) → WriteListed room x
+      → (writeNumber (writeOf f out .answer) ≡ writeNumber x) ↔ (writeOf f out .answer ≡ x)

@@ -7,11 +7,12 @@ ghost use mathlib.Core.Path.{_≡_};
 ghost use mathlib.Core.Bool.{true};
 ghost use lib.ListN.{length};
 ghost use denote.Ref.{ptr};
+ghost use Rattle.fixed_form.specs.Write.{writeOf};
 ghost use Rattle.answers.specs.Contain.{outcomeOf, workOf, wordBuffer, partLength, wordPart};
 ghost use Rattle.answers.specs.Demand2.{Demand2};
 ghost use Rattle.history.specs.Entries.{entryWith};
 ghost use Rattle.boundary.specs.Bytes.{entryLength, FitsBytes};
-ghost use Rattle.boundary.specs.Numbers.{outcomeNumber};
+ghost use Rattle.boundary.specs.Numbers.{outcomeNumber, writeNumber};
 ghost use Rattle.kernel.specs.EntryCalls.{
   isOpened,
   stored,
@@ -28,6 +29,7 @@ ghost use Rattle.kernel.specs.BytesDemand1.{
   EntryOpenDemand1,
   EntryOfferDemand1,
   EntryVerdictDemand1,
+  FileWriteDemand1,
 };
 
 // Whether the first file's automaton is contained in the second's at the bound, as one number: kind + 2^8 count + 2^24 word
@@ -190,4 +192,15 @@ pub extern "C" fn entry_verdict(entry: &[u8], stem: &[u8], cycle: &[u8]) -> u64
     let mut held = [0u8; 2048];
     let head = boundary::bytes::decode(entry, &mut held);
     boundary::numbers::verdict_number(entry::verdict(head, &held, stem, cycle))
+}
+
+// Writes the file's automaton in the fixed form to the front of out, as one number: 256 times the length, 100 plus a refusal's number, or 116
+// plus 256 times the length needed.
+#[no_mangle]
+pub extern "C" fn file_write(file: &[u8], out: &mut [u8]) -> u64
+    ensures number { λ r. ⌜ r ≡ writeNumber (writeOf (now (file .entry)) (now (out .entry)) .answer) ⌝ }
+    ensures out { λ r. ⌜ now (out .exit) ≡ writeOf (now (file .entry)) (now (out .entry)) .out ⌝ }
+    ensures demand1 { λ r. ⌜ FileWriteDemand1 (now (file .entry)) (now (out .entry)) ⌝ }
+{
+    boundary::numbers::write_number(writer::write_file(file, out))
 }

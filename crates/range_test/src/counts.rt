@@ -3,20 +3,13 @@ ghost use mathlib.Core.Path.{_≡_};
 ghost use Prim.Native.Nat.{_<_, _≤_};
 ghost use Rattle.automaton.specs.Ranges.{total};
 ghost use Rattle.automaton.specs.Members.{targetCount, countFrom};
-use automaton::transition_in;
 
 // The number of targets below `states` of q on letter a.
 fn targets(transitions: &[u8; 2048], states: usize, q: usize, a: usize) -> usize
     requires { ⌜ (states ≤ 32) × (q < 32) × (a < 16) ⌝ }
     ensures { λ n. ⌜ (n ≡ targetCount (now (transitions .entry)) states q a) × (n ≤ 32) ⌝ }
 {
-    let mut count: usize = 0;
-    let mut r: usize = 0;
-    while r < states {
-        count += transition_in(transitions, q, a, r) as usize;
-        r += 1;
-    }
-    count
+    relations::count_below(relations::row(transitions, q, a), states)
 }
 
 // The number of transitions from q on the letters below `letters` to states below `states`.

@@ -3,11 +3,12 @@
 ghost use mathlib.Core.Path.{_≡_};
 ghost use mathlib.Core.Bool.{_&&_, _||_};
 ghost use mathlib.Core.List.{[], _∷_};
-ghost use Prim.Native.Nat.{ℕ, _<_, _≤_};
+ghost use Prim.Native.Nat.{ℕ, _-_, _<_, _≤_};
 ghost use lib.Dec.{eqb};
 ghost use lib.ListN.{length};
-ghost use Rattle.automaton.specs.Ranges.{some};
+ghost use Rattle.automaton.specs.Ranges.{some, nextFrom, total};
 ghost use Rattle.automaton.specs.Sets.{bit, withBit, member};
+ghost use Rattle.automaton.specs.Automata.{one};
 ghost use Rattle.automaton.specs.Members.{transitionIn};
 ghost use Rattle.relations.specs.Closure.{rowHas};
 ghost use Rattle.relations.specs.Rows.{withRow, diagonalRows, roundRows, closedRows};
@@ -63,6 +64,30 @@ pub fn row(transitions: &[u8; 2048], q: usize, a: usize) -> u32
         transitions[at + 2],
         transitions[at + 3],
     )
+}
+
+// The least state of the set from q on; 32 where there is none.
+pub fn next_state(set: u32, q: usize) -> usize
+    requires { ⌜ q ≤ 32 ⌝ }
+    ensures { λ r. ⌜ r ≡ nextFrom (bit set) (32 - q) q ⌝ }
+{
+    if q < 32 {
+        u32::trailing_zeros(set >> q << q) as usize
+    } else {
+        32
+    }
+}
+
+// The number of states of the set below n.
+pub fn count_below(set: u32, n: usize) -> usize
+    requires { ⌜ n ≤ 32 ⌝ }
+    ensures { λ r. ⌜ (r ≡ total (λ q. one (bit set q)) n 0) × (r ≤ 32) ⌝ }
+{
+    if n < 32 {
+        u32::count_ones(set % (1u32 << n)) as usize
+    } else {
+        u32::count_ones(set) as usize
+    }
 }
 
 // Whether the set has a state.

@@ -11,11 +11,11 @@ use Rattle.history.specs.declared.Entry.{Entry}
 use Rattle.history.specs.declared.OfferAnswer.{OfferAnswer}
 use Rattle.report.specs.declared.answer_lines.Summary.{Summary}
 use Rattle.report.specs.Summary.{SummaryOf}
-use Rattle.text.specs.Buffers.{Written}
+use Rattle.buffers.specs.Buffers.{Written}
 use Rattle.text.specs.Text.{decimal, percentSaved, space}
 use Rattle.report.specs.Line.{statesText, ofText, savedText, walksText, fields}
 use Rattle.report.specs.Line.{offerLine, lineAfter, answeredLength, Lined}
-use Rattle.text.proofs.Buffers.{written-append, written-two, written-as, written-length}
+use Rattle.buffers.proofs.Buffers.{written-append, written-two, written-as, written-length}
 
 -- the fields of an edition number, held states, first states and a percent
 abbrev fieldsText : ℕ → ℕ → ℕ → ℕ → List ℕ

@@ -2,19 +2,19 @@
 ghost use mathlib.Core.List.{List, _++_};
 ghost use Prim.Native.Nat.{ℕ, _+_, _*_, _≤_};
 ghost use lib.ListN.{length};
-ghost use Rattle.text.specs.Buffers.{Written};
+ghost use Rattle.buffers.specs.Buffers.{Written};
 ghost use Rattle.text.specs.Text.{decimal, space};
 ghost use Rattle.report.specs.Line.{newline, wordText, fields, offerLine, refusedLine, lineRoom};
 ghost use Rattle.text.specs.Text.{letters as lettersText};
 ghost use Rattle.report.specs.Summary.{SummaryOf};
+use buffers::put_byte;
+use buffers::put_text;
 use history::Entry;
 use history::OfferAnswer;
 use text::percent_saved;
-use text::put_byte;
 use text::put_decimal;
 use text::put_field;
 use text::put_letters;
-use text::put_text;
 
 // What the line shows of an entry: its edition number, the held states and the states of its first edition.
 pub struct Summary {

@@ -13,13 +13,13 @@ mod listings;
 use answer_lines::Summary;
 use answer_lines::put_answer;
 use answer_lines::put_refused;
+use buffers::put_text;
 use history::EntryHead;
 use history::OfferAnswer;
 pub use listings::MAX_FILE;
 pub use listings::ROOM;
 pub use listings::fresh;
 pub use listings::listing_line;
-use text::put_text;
 
 // Whether a buffer of so many bytes has the room that is asked for a line with so many letters.
 fn has_room(size: usize, letters: usize) -> bool

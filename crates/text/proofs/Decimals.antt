@@ -8,9 +8,9 @@ use native.Mathlib.Omega.{arith}
 use lib.Dec.{ltb}
 use lib.ListN.{length, length-append}
 use borrow.Author.Tests.{lt-ltb, le-ltb, ltb-true, ltb-false}
-use Rattle.text.specs.Buffers.{Written}
+use Rattle.buffers.specs.Buffers.{Written}
 use Rattle.text.specs.Text.{digits, decimal}
-use Rattle.text.proofs.Buffers.{written-append, written-as}
+use Rattle.buffers.proofs.Buffers.{written-append, written-as}
 
 -- one digit
 digits-digit : (k n : ℕ) → n < 10 → digits (suc k) n ≡ (0x30 + n) ∷ []

@@ -1,5 +1,4 @@
--- Laws of bytes written into a buffer and of numbers as text.
-pub mod Buffers
+-- Laws of numbers and letters as text.
 pub mod Decimals
 pub mod Letters
 pub mod Percent

@@ -1,3 +1,2 @@
--- Bytes written into a lent buffer, and numbers and letters as text.
-pub mod Buffers
+-- Numbers and letters as text.
 pub mod Text

@@ -1,33 +1,13 @@
-// Bytes, texts, numbers and letters, written into a line from a place on.
+// Numbers and letters, written into a line from a place on.
 ghost use mathlib.Core.Path.{_≡_};
-ghost use mathlib.Core.List.{[], _∷_, _++_};
+ghost use mathlib.Core.List.{_++_};
 ghost use Prim.Native.Nat.{_+_, _*_, _<_, _≤_};
 ghost use lib.ListN.{length};
-ghost use Rattle.text.specs.Buffers.{Written};
+ghost use Rattle.buffers.specs.Buffers.{Written};
 ghost use Rattle.text.specs.Text.{decimal, space};
 ghost use Rattle.text.specs.Text.{letters as lettersText};
-
-// Writes a byte into the line at a place, and answers the place behind it.
-pub fn put_byte(line: &mut [u8], at: usize, byte: u8) -> usize
-    requires { ⌜ at < length (now line) ⌝ }
-    ensures { λ r. ⌜ Written (now (line .entry)) at (byte ∷ []) (now (line .exit)) r ⌝ }
-{
-    line[at] = byte;
-    at + 1
-}
-
-// Writes a text into the line from a place on, and answers the place behind it.
-pub fn put_text(line: &mut [u8], at: usize, text: &[u8]) -> usize
-    requires { ⌜ at + length (now text) ≤ length (now line) ⌝ }
-    ensures { λ r. ⌜ Written (now (line .entry)) at (now (text .entry)) (now (line .exit)) r ⌝ }
-{
-    let mut i: usize = 0;
-    while i < text.len() {
-        line[at + i] = text[i];
-        i += 1;
-    }
-    at + text.len()
-}
+use buffers::put_byte;
+use buffers::put_text;
 
 // The byte of a decimal digit.
 fn digit(n: usize) -> u8

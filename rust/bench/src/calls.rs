@@ -1,5 +1,6 @@
 //! Calls on the public functions of a checker, and the buffers that they use.
 
+use differential::writing::LONGEST;
 use second::walk::{MAX_SLOTS, SLOT_BYTES};
 use second::ENTRY_BYTES;
 
@@ -24,6 +25,8 @@ pub enum Call {
         stem: Vec<u8>,
         cycle: Vec<u8>,
     },
+    /// A write of a file with room for the longest one.
+    Write { file: Vec<u8> },
 }
 
 /// What calls write. It is filled once; later calls find what earlier ones left.
@@ -32,6 +35,7 @@ pub struct Buffers {
     work: Vec<u8>,
     word: Vec<u8>,
     entry: Vec<u8>,
+    out: Vec<u8>,
     /// The number of each call.
     pub numbers: Vec<u64>,
 }
@@ -42,6 +46,7 @@ impl Buffers {
             work: vec![0xA5; MAX_SLOTS * SLOT_BYTES],
             word: vec![0xA5; WORD_BYTES],
             entry: vec![0; ENTRY_BYTES],
+            out: vec![0xA5; LONGEST],
             numbers: Vec::new(),
         }
     }
@@ -54,6 +59,7 @@ impl Call {
             work,
             word,
             entry,
+            out,
             numbers,
         } = buffers;
         match self {
@@ -69,6 +75,7 @@ impl Call {
                 }
             }
             Call::Verdict { entry, stem, cycle } => numbers.push((checker.entry.verdict)(entry, stem, cycle)),
+            Call::Write { file } => numbers.push((checker.write)(file, out)),
         }
     }
 }

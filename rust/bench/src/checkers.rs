@@ -10,16 +10,20 @@ pub struct Checker {
     pub name: &'static str,
     pub contain: ContainCall,
     pub entry: Calls,
+    /// File, output.
+    pub write: fn(&[u8], &mut [u8]) -> u64,
 }
 
 pub const KERNEL: Checker = Checker {
     name: "kernel",
     contain: archive::contain,
     entry: Calls::KERNEL,
+    write: archive::file_write,
 };
 
 pub const SECOND: Checker = Checker {
     name: "second",
     contain: second::contain,
     entry: Calls::SECOND,
+    write: second::file_write,
 };

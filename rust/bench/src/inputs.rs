@@ -1,6 +1,6 @@
 //! The automata, files and words of the rows. All are drawn from fixed seeds, so each run measures the same calls.
 
-use differential::automata::{everything, window, Plain};
+use differential::automata::{everything, full, window, Plain};
 use differential::random::Random;
 use second::lasso::MAX_LASSO;
 use second::walk::MAX_SLOTS;
@@ -13,6 +13,7 @@ const DENSE_SEED: u64 = 0xBE4C_0002;
 const SPARSE_SEED: u64 = 0xBE4C_0003;
 const HISTORY_SEED: u64 = 0xBE4C_0004;
 const WORDS_SEED: u64 = 0xBE4C_0005;
+const WRITE_SEED: u64 = 0xBE4C_0006;
 
 /// Calls of a row with small files.
 const SMALL_CALLS: usize = 32;
@@ -185,10 +186,7 @@ pub fn large_history() -> Vec<Call> {
 
 /// The longest well-formed file: 32 states that all accept, and every transition on 16 letters.
 fn longest() -> Vec<u8> {
-    let mut plain = Plain::bare(32, 16, 0);
-    plain.accepting = u32::MAX;
-    plain.rows.fill(u32::MAX);
-    plain.file()
+    full(32, 16).file()
 }
 
 pub fn longest_opened() -> Vec<Call> {
@@ -206,4 +204,31 @@ pub fn longest_refused() -> Vec<Call> {
         files: vec![file],
         bound: 0,
     }]
+}
+
+/// Writes of small files, their records in any order.
+pub fn small_writes() -> Vec<Call> {
+    let write = |case: usize| {
+        let random = &mut Random::new(PAIRS_SEED, case);
+        let states = random.between(2, 12);
+        let file = small(random, states).shuffled_file(random);
+        Call::Write { file }
+    };
+    (0..SMALL_CALLS).map(write).collect()
+}
+
+/// A write of a file of so many bytes: 32 states that all accept, and some or all of the transitions on 16 letters, in any order.
+pub fn large_write(bytes: usize) -> Vec<Call> {
+    let random = &mut Random::new(WRITE_SEED, 0);
+    let mut transitions: Vec<usize> = (0..32 * 16 * 32).collect();
+    random.shuffle(&mut transitions);
+    let mut plain = Plain::bare(32, 16, 0);
+    plain.accepting = u32::MAX;
+    let others = plain.file().len();
+    for transition in &transitions[..(bytes - others) / 5] {
+        plain.rows[transition / 32] |= 1 << (transition % 32);
+    }
+    let file = plain.shuffled_file(random);
+    assert_eq!(file.len(), bytes);
+    vec![Call::Write { file }]
 }

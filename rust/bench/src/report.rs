@@ -3,7 +3,7 @@
 use json::Value;
 
 use crate::measure::Medians;
-use crate::rows::{slots_name, Row, SLOTS};
+use crate::rows::{slots_name, Row, SLOTS, WRITES};
 
 /// What holds of the buffers in all rows.
 const BUFFERS: &str = "each checker has its own; filled once for each row and not cleared between runs";
@@ -16,6 +16,9 @@ const ROW_GOAL: f64 = 1.0;
 
 /// Highest time for a listed vertex at 4,096 slots, as a multiple of that at 64.
 const VERTEX_GOAL: f64 = 1.5;
+
+/// Highest time for a byte of the longest written file, as a multiple of that for one of half its length.
+const BYTE_GOAL: f64 = 1.5;
 
 pub struct Report {
     pub machine: String,
@@ -130,11 +133,15 @@ impl Report {
         (logarithms / self.rows.len() as f64).exp()
     }
 
-    /// The kernel's time of the call with so many slots.
-    fn slots_time(&self, slots: usize) -> f64 {
-        let name = slots_name(slots);
+    /// The kernel's time of the row.
+    fn time(&self, name: &str) -> f64 {
         let timed = self.rows.iter().find(|timed| timed.row.name == name);
         timed.expect("the row is measured").medians.kernel
+    }
+
+    /// The kernel's time of the call with so many slots.
+    fn slots_time(&self, slots: usize) -> f64 {
+        self.time(&slots_name(slots))
     }
 
     fn vertices(&self) -> [Vertex; SLOTS.len() - 1] {
@@ -150,16 +157,23 @@ impl Report {
         })
     }
 
-    fn goals(&self) -> [Goal; 4] {
+    fn goals(&self) -> [Goal; 5] {
         let [least, .., most] = self.vertices();
         let worst = self.ratios().fold(0.0, f64::max);
         let whole = most.whole / least.whole;
         let walk = most.walk / least.walk;
+        let [half, longest] = WRITES.map(|(name, bytes)| self.time(name) / bytes as f64);
         [
             Goal::new("mean", "geometric mean of kernel/second", self.mean(), MEAN_GOAL),
             Goal::new("row", "highest kernel/second of a row", worst, ROW_GOAL),
             Goal::new("vertex", "time per vertex, 4,096 slots/64", whole, VERTEX_GOAL),
             Goal::new("vertex-walk", "the same without reading and checks", walk, VERTEX_GOAL),
+            Goal::new(
+                "byte",
+                "time per byte, 82,023 written/41,063",
+                longest / half,
+                BYTE_GOAL,
+            ),
         ]
     }
 

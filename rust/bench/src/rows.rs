@@ -17,6 +17,9 @@ pub struct Row {
 /// Slots of the rows that give the time for each listed vertex; the first has none, so it has reading and checks alone.
 pub const SLOTS: [usize; 4] = [0, 64, 512, 4096];
 
+/// The rows that give the time for each written byte, and the bytes of their files.
+pub const WRITES: [(&str, usize); 2] = [("write-half", 41_063), ("write-longest", 82_023)];
+
 /// The name of the row with so many slots.
 pub fn slots_name(slots: usize) -> String {
     format!("slots-{slots}")
@@ -24,7 +27,7 @@ pub fn slots_name(slots: usize) -> String {
 
 pub fn all() -> Vec<Row> {
     let slots = SLOTS.map(with_slots).into();
-    [by_size(), full(), slots, verdicts(), histories(), longest()]
+    [by_size(), full(), slots, verdicts(), histories(), longest(), writes()]
         .into_iter()
         .flatten()
         .collect()
@@ -90,6 +93,16 @@ fn longest() -> Vec<Row> {
     vec![
         row("longest-opened", whole, 0, inputs::longest_opened()),
         row("longest-refused", cut, 101, inputs::longest_refused()),
+    ]
+}
+
+fn writes() -> Vec<Row> {
+    let [(half, half_bytes), (longest, longest_bytes)] = WRITES;
+    let whole = "file_write, the longest file, 82,023 bytes";
+    vec![
+        row("write-small", "file_write, 2 to 12 states", 0, inputs::small_writes()),
+        row(half, "file_write, 41,063 bytes", 0, inputs::large_write(half_bytes)),
+        row(longest, whole, 0, inputs::large_write(longest_bytes)),
     ]
 }
 

@@ -1,19 +1,20 @@
 //! What the program answers, for people and for programs.
 
+use std::mem;
 use std::path::{Path, PathBuf};
 
 use edition::{Argument, Refusal, Walk};
 use json::Value;
 
-/// Contained, taken, opened, yes, shown.
+/// Contained, taken, opened, yes, written, shown.
 pub const YES: u8 = 0;
 /// Differs, forward, back, no.
 pub const NO: u8 = 1;
-/// One of document 01's refusals.
+/// A refusal of the checker.
 pub const REFUSED: u8 = 2;
 /// Wrong use, a file that cannot be read or written, or an answer that cannot be written.
 pub const FAILED: u8 = 3;
-/// The STORE is replaced, and something failed after that: the folder could not be synced, or the answer could not be written.
+/// The STORE or OUT is replaced, and something failed after that: the folder could not be synced, or the answer could not be written.
 pub const REPLACED: u8 = 4;
 
 /// An answer: the exit status, its kind in plain English, a text for people, and fields for programs.
@@ -24,7 +25,9 @@ pub struct Answer {
     /// What is said besides, on standard error, where the text is fixed.
     pub note: String,
     pub fields: Vec<(&'static str, Value)>,
-    /// The STORE that the command has replaced.
+    /// A file's bytes, which people get on standard output in place of the text.
+    pub bytes: Option<Vec<u8>>,
+    /// The STORE or OUT that the command has replaced.
     pub replaced: Option<PathBuf>,
 }
 
@@ -36,13 +39,21 @@ impl Answer {
             text,
             note: String::new(),
             fields: Vec::new(),
+            bytes: None,
             replaced: None,
         }
     }
 
-    /// The answer of a command that has replaced this STORE.
-    pub fn replacing(mut self, store: &Path) -> Answer {
-        self.replaced = Some(store.into());
+    /// The answer of a command that has replaced this file.
+    pub fn replacing(mut self, file: &Path) -> Answer {
+        self.replaced = Some(file.into());
+        self
+    }
+
+    /// The answer where standard output is for these bytes: the text is said beside them.
+    pub fn giving(mut self, bytes: Vec<u8>) -> Answer {
+        self.note = mem::take(&mut self.text);
+        self.bytes = Some(bytes);
         self
     }
 
@@ -76,7 +87,7 @@ pub enum Failure {
     Usage(String),
     /// A file that cannot be read or written, or a form that the automaton does not have.
     File(String),
-    /// A STORE that is replaced, and is perhaps not on the disk.
+    /// A STORE or OUT that is replaced, and is perhaps not on the disk.
     Replaced(String),
     /// A refusal of the checker.
     Refused(Refusal),
@@ -119,6 +130,7 @@ pub fn advised(refusal: &Refusal, advice: String) -> Answer {
     answer = match *refusal {
         Refusal::Slots { slots, .. } => answer.number("slots", slots),
         Refusal::Word { needed, .. } => answer.number("needed", needed),
+        Refusal::Room { needed } => answer.number("needed", needed),
         _ => answer,
     };
     answer

@@ -81,6 +81,11 @@ impl Arguments {
         self.words.first().and_then(|word| word.to_str())
     }
 
+    /// The number of operands.
+    pub fn operands(&self) -> usize {
+        self.words.len() - 1
+    }
+
     /// The operand of this place, counted from 1. The number of operands has been checked.
     pub fn operand(&self, place: usize) -> &OsStr {
         &self.words[place]

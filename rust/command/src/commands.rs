@@ -5,10 +5,10 @@ use edition::slots::{self, Slot};
 use edition::{Automaton, Buffers, Entry, Held, Offer, Outcome, Refusal, MAX_SLOTS};
 use json::Value;
 
-use crate::answer::{spelled, Answer, Failure, NO, YES};
+use crate::answer::{refused, spelled, Answer, Failure, NO, YES};
 use crate::arguments::{Arguments, Form};
 use crate::store::Store;
-use crate::{dot, listing, never};
+use crate::{dot, listing, never, out};
 
 /// `listing FIRST OFFER BOUND`.
 pub fn list(arguments: &Arguments) -> Result<Answer, Failure> {
@@ -124,12 +124,44 @@ pub fn verdict(arguments: &Arguments) -> Result<Answer, Failure> {
     })
 }
 
+/// `write FILE [OUT]`.
+pub fn write(arguments: &Arguments) -> Result<Answer, Failure> {
+    let file = arguments.source(1).whole()?;
+    let written = edition::write(&file);
+    if arguments.operands() == 1 {
+        return Ok(to_output(written));
+    }
+    let (bytes, place) = (written?, arguments.path(2));
+    out::replace(place, &bytes)?;
+    let text = format!("written: {} bytes", bytes.len());
+    Ok(Answer::new(YES, "written", text)
+        .number("length", bytes.len() as u64)
+        .replacing(place))
+}
+
+/// The answer of a file that goes to standard output: nothing else may stand there, so a refusal is told beside it.
+fn to_output(written: Result<Vec<u8>, Refusal>) -> Answer {
+    match written {
+        Ok(bytes) => Answer::new(YES, "written", String::new())
+            .number("length", bytes.len() as u64)
+            .with("bytes", Value::Text(hexadecimal(&bytes)))
+            .giving(bytes),
+        Err(refusal) => refused(&refusal).giving(Vec::new()),
+    }
+}
+
+fn hexadecimal(bytes: &[u8]) -> String {
+    bytes.iter().map(|byte| format!("{byte:02x}")).collect()
+}
+
 /// `show FILE|STORE`. What comes from standard input is an automaton file.
 pub fn show(arguments: &Arguments) -> Result<Answer, Failure> {
     let (bytes, form) = (arguments.source(1).whole()?, arguments.form());
     if arguments.is_input(1) || !Entry::is_meant(&bytes) {
         let automaton = Automaton::from_file(&bytes)?;
-        let answer = Answer::new(YES, "automaton", described(&automaton));
+        let fixed = edition::write(&bytes)? == bytes;
+        let order = if fixed { "\nfixed form: yes" } else { "\nfixed form: no" };
+        let answer = Answer::new(YES, "automaton", described(&automaton, order)).with("fixed", Value::Truth(fixed));
         return shown(answer, &automaton, form);
     }
     match Entry::from_bytes(&bytes)?.held() {
@@ -139,7 +171,7 @@ pub fn show(arguments: &Arguments) -> Result<Answer, Failure> {
             let Held {
                 edition, first_states, ..
             } = held;
-            let automaton = described(&held.automaton);
+            let automaton = described(&held.automaton, "");
             let text = format!("entry: edition {edition}, first edition of {first_states} states\n{automaton}");
             let answer = Answer::new(YES, "entry", text)
                 .number("edition", edition)
@@ -172,8 +204,8 @@ fn accepting(automaton: &Automaton) -> Vec<u8> {
     automaton.accepting().collect()
 }
 
-/// The automaton in words, a line for each transition.
-fn described(automaton: &Automaton) -> String {
+/// The automaton in words, a line for each transition; what else there is to say stands before these.
+fn described(automaton: &Automaton, besides: &str) -> String {
     let list = |states: Vec<u8>| match states.is_empty() {
         true => "none".into(),
         false => states.iter().map(u8::to_string).collect::<Vec<_>>().join(" "),
@@ -189,7 +221,7 @@ fn described(automaton: &Automaton) -> String {
         " (contain, open and offer refuse this automaton with 6)"
     };
     format!(
-        "automaton: {} states, {} letters, {} transitions\ninitial: {}\naccepting: {}\ndead: {}{refused}{}",
+        "automaton: {} states, {} letters, {} transitions\ninitial: {}\naccepting: {}\ndead: {}{refused}{besides}{}",
         automaton.states(),
         automaton.letters(),
         transitions.len(),

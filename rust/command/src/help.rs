@@ -1,11 +1,16 @@
 //! The commands' names, operands and help texts.
 
+use std::ops::RangeInclusive;
+
 use crate::answer::{Answer, Failure};
 use crate::arguments::Arguments;
 use crate::commands;
 
 /// The operand that names the file of an entry.
 pub const STORE: &str = "STORE";
+
+/// The operand, which may be left out, that names the file to write.
+pub const OUT: &str = "[OUT]";
 
 /// The operands that name no file.
 pub const NO_FILES: [&str; 3] = ["BOUND", "STEM", "LOOP"];
@@ -23,6 +28,12 @@ pub struct Command {
 }
 
 impl Command {
+    /// How many operands the command takes: those in brackets may be left out.
+    pub fn counts(&self) -> RangeInclusive<usize> {
+        let optional = self.operands.iter().filter(|name| name.starts_with('['));
+        self.operands.len() - optional.count()..=self.operands.len()
+    }
+
     /// The command with its operands and options.
     pub fn usage(&self) -> String {
         let slots = if self.slots { " [--slots N]" } else { "" };
@@ -62,17 +73,17 @@ pub fn all() -> String {
 
 const OPERANDS: &str = "\
 FIRST, SECOND, OFFER and FILE are automaton files, of at most 1,048,576 bytes (the longest well-formed one has 82,023; with
-listing at most 65,536); - is standard input, once. A STORE is a file that holds one entry.
+listing at most 65,536); - is standard input, once. A STORE is a file that holds one entry, OUT an automaton file to be written.
 BOUND is a number from 0 to 14. STEM and LOOP are letters with commas between them, such as 0,1,1; '' is the empty stem.
 --json gives the answer as a JSON object, wrong use included; --dot gives a picture in Graphviz's language, --never a never
 claim in SPIN's; words after -- are no options.";
 
 const STATUS: &str = "\
-exit status: 0 contained, taken, opened, yes, shown; 1 differs, forward, back, no; 2 refused, with the number and what to do;
-3 wrong use, or a file or an answer that cannot be read or written; 4 the STORE is replaced, but the answer cannot be written, or
-a power cut may bring the old entry back.";
+exit status: 0 contained, taken, opened, yes, written, shown; 1 differs, forward, back, no; 2 refused, with the number and what to
+do; 3 wrong use, or a file or an answer that cannot be read or written; 4 the STORE or OUT is replaced, but the answer cannot be
+written, or a power cut may bring the old one back.";
 
-pub const COMMANDS: [Command; 6] = [
+pub const COMMANDS: [Command; 7] = [
     Command {
         name: "listing",
         operands: &["FIRST", "OFFER", "BOUND"],
@@ -129,14 +140,27 @@ pub const COMMANDS: [Command; 6] = [
         run: commands::verdict,
     },
     Command {
+        name: "write",
+        operands: &["FILE", OUT],
+        slots: false,
+        dot: false,
+        never: false,
+        about: "Writes the automaton of FILE in the fixed form: the header, the accepting states from the lowest up, the transitions by\n\
+                source, letter and target, the end. Files that hold the same automaton give the same bytes. They go to OUT, which may\n\
+                be FILE and is replaced whole or not at all, or to standard output; with --json and without OUT they are in the\n\
+                object, in hexadecimal. Dead states do not matter.",
+        examples: "  ./edition write examples/any-order/until-sink.ba sink.ba\n  ./edition write - < examples/g.ba > g.ba",
+        run: commands::write,
+    },
+    Command {
         name: "show",
         operands: &["FILE|STORE"],
         slots: false,
         dot: true,
         never: true,
-        about: "Shows the automaton in a file, dead states marked, or the entry in a STORE. --dot draws the automaton. --never prints it\n\
-                as a never claim for SPIN, over the propositions p0, p1 and so on: p0 holds in the letters whose lowest bit is 1, p1\n\
-                goes by the next bit. So the number of letters is 1, 2, 4, 8 or 16.",
+        about: "Shows the automaton in a file, dead states marked, and whether the file is in the fixed form; or the entry in a STORE.\n\
+                --dot draws the automaton. --never prints it as a never claim for SPIN, over the propositions p0, p1 and so on: p0\n\
+                holds in the letters whose lowest bit is 1, p1 goes by the next bit. So the number of letters is 1, 2, 4, 8 or 16.",
         examples: "  ./edition show examples/g.ba\n  ./edition show entry.store --dot | dot -Tsvg > entry.svg\n  \
                    ./edition show examples/response.ba --never > response.pml",
         run: commands::show,

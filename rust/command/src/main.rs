@@ -10,16 +10,19 @@ mod files;
 mod help;
 mod listing;
 mod never;
+mod out;
+mod replace;
 mod store;
 
 use std::env;
 use std::ffi::OsString;
 use std::io::{self, Write};
+use std::ops::RangeInclusive;
 use std::process::ExitCode;
 
 use answer::{Answer, Failure, FAILED, REFUSED, REPLACED, YES};
 use arguments::{asks_json, usage, Arguments, Form};
-use help::{Command, COMMANDS, NO_FILES, STORE};
+use help::{Command, COMMANDS, NO_FILES, OUT, STORE};
 use json::Value;
 
 fn main() -> ExitCode {
@@ -47,9 +50,9 @@ fn main() -> ExitCode {
 /// The status, and what is said first, where the answer cannot be written.
 fn untold(answer: &Answer) -> (u8, String) {
     match &answer.replaced {
-        Some(store) => (
+        Some(file) => (
             REPLACED,
-            format!("{} is replaced ({}), but ", store.display(), answer.text),
+            format!("{} is replaced ({}), but ", file.display(), answer.text),
         ),
         None if answer.status == REPLACED => (REPLACED, format!("{}; besides, ", answer.text)),
         None => (FAILED, String::new()),
@@ -93,9 +96,9 @@ fn version() -> Answer {
 
 /// What is wrong with the number of operands, with standard input as one or with the options, if anything.
 fn check(command: &Command, arguments: &Arguments) -> Result<(), String> {
-    let (given, wanted) = (arguments.words.len() - 1, command.operands.len());
-    if given != wanted {
-        return Err(format!("{} takes {wanted} operands, not {given}", command.name));
+    let (given, wanted) = (arguments.operands(), command.counts());
+    if !wanted.contains(&given) {
+        return Err(format!("{} takes {}, not {given}", command.name, counted(&wanted)));
     }
     if arguments.slots.is_some() && !command.slots {
         return Err(format!("{} takes no --slots", command.name));
@@ -109,15 +112,24 @@ fn check(command: &Command, arguments: &Arguments) -> Result<(), String> {
     check_input(command, arguments)
 }
 
-/// What is wrong with standard input as a file, if anything: it is read once, and replaces no STORE.
+/// So many operands, in words: `3 operands`, `1 or 2 operands`.
+fn counted(counts: &RangeInclusive<usize>) -> String {
+    let counts: Vec<String> = counts.clone().map(|count| count.to_string()).collect();
+    format!("{} operands", counts.join(" or "))
+}
+
+/// What is wrong with standard input as a file, if anything: it is read once, and replaces no STORE and no OUT.
 fn check_input(command: &Command, arguments: &Arguments) -> Result<(), String> {
-    let named = (1..).zip(command.operands);
+    let named = (1..=arguments.operands()).zip(command.operands);
     let files = named.filter(|(_, name)| !NO_FILES.contains(name));
     let input: Vec<&str> = files
         .filter_map(|(place, &name)| arguments.is_input(place).then_some(name))
         .collect();
     match input[..] {
         [STORE, ..] => Err("STORE is the name of a file, and - is standard input; ./- is a file of that name".into()),
+        [.., OUT] => Err(
+            "OUT is the name of a file, and - is standard input; without OUT the file goes to standard output".into(),
+        ),
         [_, _, ..] => Err("standard input is read once: give one - only".into()),
         _ => Ok(()),
     }
@@ -128,11 +140,15 @@ fn print(answer: Answer, command: Option<&str>, form: Form) -> io::Result<()> {
     if form == Form::Json {
         return writeln!(io::stdout(), "{}", answer.json(command));
     }
-    let failed = matches!(answer.kind, "usage" | "failed" | "replaced");
-    let aside = failed || (form != Form::Text && answer.status == REFUSED);
     if !answer.note.is_empty() {
         writeln!(io::stderr(), "{}", answer.note)?;
     }
+    if let Some(bytes) = answer.bytes {
+        let mut out = io::stdout().lock();
+        return out.write_all(&bytes).and_then(|()| out.flush());
+    }
+    let failed = matches!(answer.kind, "usage" | "failed" | "replaced");
+    let aside = failed || (form != Form::Text && answer.status == REFUSED);
     if aside {
         writeln!(io::stderr(), "{}", answer.text.trim_end())
     } else {

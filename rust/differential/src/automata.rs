@@ -77,7 +77,7 @@ impl Plain {
         [&header, records.concat().as_slice(), &[0x41, 0x45]].concat()
     }
 
-    /// The file with its records in order.
+    /// The file with its records in order, which is the fixed form.
     pub fn file(&self) -> Vec<u8> {
         self.written(&self.records())
     }
@@ -331,6 +331,15 @@ pub fn everything(letters: usize) -> Plain {
     let mut plain = Plain::bare(1, letters, 0);
     plain.accepting = 1;
     plain.rows.fill(1);
+    plain
+}
+
+/// All states accept, and there is every transition.
+pub fn full(states: usize, letters: usize) -> Plain {
+    let mut plain = Plain::bare(states, letters, 0);
+    let all = u32::MAX >> (MAX_STATES - states);
+    plain.accepting = all;
+    plain.rows.fill(all);
     plain
 }
 

@@ -8,3 +8,4 @@ pub mod entries;
 pub mod listing;
 pub mod random;
 pub mod tally;
+pub mod writing;

@@ -18,8 +18,8 @@ use crate::random::Random;
 use crate::tally::hex;
 
 /// Every outcome that can be printed. Of the refusals, 9, 12 and 13 cannot come up, since the entry is fresh and the offer
-/// follows an open; 11 neither, since a word is at most as long as there are slots and the word buffer is longer; and 15 is no
-/// refusal of these calls.
+/// follows an open; 11 neither, since a word is at most as long as there are slots and the word buffer is longer; and 15
+/// and 16 are no refusals of these calls.
 const OUTCOMES: [&str; 24] = [
     "usage",
     "long",

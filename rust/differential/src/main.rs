@@ -8,7 +8,7 @@ use std::process::ExitCode;
 use std::time::Instant;
 
 use differential::tally::Tally;
-use differential::{containment, entries, listing};
+use differential::{containment, entries, listing, writing};
 
 /// Pairs of drawn files for contain.
 const PAIRS: usize = 800_000;
@@ -25,6 +25,12 @@ const FORGED: usize = 20_000;
 /// Verdicts on words up to the limits.
 const LONG_WORDS: usize = 1_000;
 
+/// Drawn automata whose files are written.
+const WRITTEN: usize = 40_000;
+
+/// Spoilt files that are to be written.
+const DAMAGED: usize = 100_000;
+
 /// Pairs of drawn files for the listing.
 const LISTED: usize = 2_500;
 
@@ -37,13 +43,16 @@ const LONG_WORDS_SEED: u64 = 0x5EED_0006;
 const LONGEST_SEED: u64 = 0x5EED_0007;
 const EXAMPLES_SEED: u64 = 0x5EED_0008;
 const LISTED_SEED: u64 = 0x5EED_0009;
+const WRITTEN_SEED: u64 = 0x5EED_000A;
+const DAMAGED_SEED: u64 = 0x5EED_000B;
 
 fn main() -> ExitCode {
     let arguments: Vec<String> = std::env::args().skip(1).collect();
     let passed = match arguments.as_slice() {
         [] => {
             let contain_passed = compare_contain();
-            contain_passed & compare_entries()
+            let entries_passed = compare_entries();
+            contain_passed & entries_passed & compare_writing()
         }
         [word] if word == "rehearse" => rehearse_entries(),
         [word, program, folder] if word == "listing" => compare_listing(program, folder),
@@ -108,6 +117,27 @@ fn check_entries(calls: &entries::Calls) -> bool {
         entries::longest(calls, &mut tallies, LONGEST_SEED)
     });
     tallies.conclude() & share_passed
+}
+
+fn compare_writing() -> bool {
+    let mut tally = Tally::new("file_write");
+    timed(
+        &format!("file_write: {WRITTEN} automata, seed {WRITTEN_SEED:#x}"),
+        || writing::drawn_files(&mut tally, WRITTEN_SEED, WRITTEN),
+    );
+    timed(
+        &format!("file_write: {DAMAGED} spoilt files, seed {DAMAGED_SEED:#x}"),
+        || writing::damaged_files(&mut tally, DAMAGED_SEED, DAMAGED),
+    );
+    timed(
+        &format!("file_write: worked files spoilt, seed {WORKED_SEED:#x}"),
+        || writing::worked_files(&mut tally, WORKED_SEED),
+    );
+    timed(
+        &format!("file_write: no records and all of them, seed {LONGEST_SEED:#x}"),
+        || writing::limits(&mut tally, LONGEST_SEED),
+    );
+    tally.conclude(&writing::OUTCOMES)
 }
 
 fn compare_listing(program: &str, folder: &str) -> bool {

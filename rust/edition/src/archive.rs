@@ -39,6 +39,8 @@ mod exported {
             cycle: *const u8,
             cycle_length: usize,
         ) -> u64;
+
+        pub fn file_write(file: *const u8, file_length: usize, out: *mut u8, out_length: usize) -> u64;
     }
 }
 
@@ -98,4 +100,11 @@ pub fn entry_verdict(entry: &[u8], stem: &[u8], cycle: &[u8]) -> u64 {
             cycle.len(),
         )
     }
+}
+
+/// Kind + 2^8 times length: kind 0 written, 100 plus a refusal's number; the length is that of the written file, with refusal 16 the
+/// one needed.
+pub fn file_write(file: &[u8], out: &mut [u8]) -> u64 {
+    // SAFETY: as for contain.
+    unsafe { exported::file_write(file.as_ptr(), file.len(), out.as_mut_ptr(), out.len()) }
 }

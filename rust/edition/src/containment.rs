@@ -64,7 +64,7 @@ pub fn contain<'a>(
                 file: argument(count),
                 slots: count,
                 needed: length,
-                walk: None,
+                ..Values::default()
             },
         )),
     }

@@ -176,10 +176,10 @@ fn offer_refusal(number: u64) -> Refusal {
     Refusal::of_kind(
         bits(number, 0, 8),
         Values {
-            file: None,
             walk,
             slots,
             needed: half(number, 40),
+            ..Values::default()
         },
     )
 }

@@ -6,6 +6,7 @@
 //! |---|---|
 //! | is every run prefix of one automaton followed by one of the other within a bound? | [`contain`], [`Buffers::contain`] |
 //! | an entry: open it, offer it a smaller edition, ask for a verdict | [`Entry`], [`Buffers::offer`] |
+//! | a file's automaton in the fixed form, the same bytes for the same automaton | [`write()`], [`write_into`] |
 //! | why a call was refused, and what to do about it | [`Refusal`] |
 //! | the plain numbers | [`archive`] |
 //! | looking at automata and at walks, for display only | [`Automaton`], [`slots`], [`lag`] |
@@ -50,6 +51,7 @@ pub mod lag;
 mod layout;
 mod refusal;
 pub mod slots;
+mod written;
 
 pub use automaton::Automaton;
 pub use buffers::Buffers;
@@ -57,6 +59,7 @@ pub use containment::{contain, Outcome};
 pub use entry::{Entry, Held, Offer};
 pub use layout::ENTRY_BYTES;
 pub use refusal::{Argument, Refusal, Walk};
+pub use written::{write, write_into};
 
 /// The version of this package, which is the version of the header and of the command.
 pub const VERSION: &str = env!("CARGO_PKG_VERSION");
@@ -69,6 +72,9 @@ pub const MAX_SLOTS: usize = 4096;
 
 /// The most letters that a word has: a walk's final vertex is at most as many steps from the initial one as there are slots.
 pub const MAX_WORD: usize = MAX_SLOTS;
+
+/// The most bytes of a file that can be read, and of one that is written: an output buffer of this length is never too short.
+pub const MAX_FILE: usize = 82_023;
 
 /// `length` bits of a number, from `low` upwards.
 fn bits(number: u64, low: u32, length: u32) -> u64 {

@@ -1,4 +1,4 @@
-//! The fifteen refusals of document 01's table.
+//! The refusals: document 01's table, and the row that S-1 adds to it.
 
 use std::error::Error;
 use std::fmt;
@@ -23,7 +23,7 @@ pub enum Walk {
     Back,
 }
 
-/// Why a call was refused. A refused call has changed no entry.
+/// Why a call was refused. A refused call has changed no entry, no word buffer and no output buffer.
 ///
 /// `file` is `None` where the call has one file only, `walk` is `None` where it makes one walk only.
 ///
@@ -96,6 +96,11 @@ pub enum Refusal {
     NotSmaller,
     /// 15: the lasso word is out of range.
     Lasso,
+    /// 16: the output buffer is shorter than the file.
+    Room {
+        /// How many bytes the file needs.
+        needed: u32,
+    },
 }
 
 /// The values that stand beside a refusal's number.
@@ -105,16 +110,18 @@ pub(crate) struct Values {
     pub walk: Option<Walk>,
     pub slots: u16,
     pub needed: u16,
+    pub room: u32,
 }
 
 impl Refusal {
-    /// The refusal of an answer's kind, 101 to 115, with the values that the answer gives.
+    /// The refusal of an answer's kind, 101 to 116, with the values that the answer gives.
     pub(crate) fn of_kind(kind: u64, values: Values) -> Refusal {
         let Values {
             file,
             walk,
             slots,
             needed,
+            room,
         } = values;
         match kind {
             101 => Refusal::Ends { file },
@@ -132,13 +139,14 @@ impl Refusal {
             113 => Refusal::Empty,
             114 => Refusal::NotSmaller,
             115 => Refusal::Lasso,
+            116 => Refusal::Room { needed: room },
             _ => panic!("kind {kind} is no answer of the kernel: the archive is of another version"),
         }
     }
 
-    /// The refusal of a number alone, 1 to 15, as the program `listing` prints it: without file and walk, its count 0.
+    /// The refusal of a number alone, 1 to 16, as the program `listing` prints some: without file and walk, its count 0.
     pub fn from_number(number: u8) -> Option<Refusal> {
-        (1..=15)
+        (1..=16)
             .contains(&number)
             .then(|| Refusal::of_kind(100 + u64::from(number), Values::default()))
     }
@@ -161,6 +169,7 @@ impl Refusal {
             Refusal::Empty => 13,
             Refusal::NotSmaller => 14,
             Refusal::Lasso => 15,
+            Refusal::Room { .. } => 16,
         }
     }
 
@@ -212,8 +221,9 @@ impl Refusal {
             Some(Walk::Back) => "the back walk",
         };
         let count = match *self {
-            Refusal::Slots { slots, .. } => slots,
-            Refusal::Word { needed, .. } => needed,
+            Refusal::Slots { slots, .. } => slots.into(),
+            Refusal::Word { needed, .. } => needed.into(),
+            Refusal::Room { needed } => needed,
             _ => 0,
         };
         text.replace("{file}", file)
@@ -231,7 +241,7 @@ impl fmt::Display for Refusal {
 impl Error for Refusal {}
 
 /// The table's rows in order: what is wrong, and what to do about it.
-const ROWS: [[&str; 2]; 15] = [
+const ROWS: [[&str; 2]; 16] = [
     [
         "{file} ends inside a record or has no end record",
         "write the file again: it was cut short, or its end record 41 45 is missing",
@@ -281,5 +291,9 @@ const ROWS: [[&str; 2]; 15] = [
         "the lasso word is out of range: a stem over 4,096 letters, a loop that is empty or over 4,096, or a letter that the \
          automaton lacks",
         "give a loop of 1 to 4,096 letters and a stem of at most 4,096, of the letters that the automaton has",
+    ],
+    [
+        "the file has {count} bytes in the fixed form, and the output buffer is shorter",
+        "give an output buffer of {count} bytes or more; 82,023 are always enough",
     ],
 ];

@@ -3,14 +3,14 @@
 
 use std::sync::atomic::{AtomicU8, Ordering};
 
-/// Contain, open, offer, verdict.
-const CALLS: usize = 4;
+/// Contain, open, offer, verdict, file_write.
+const CALLS: usize = 5;
 
-/// Three kinds and fifteen refusals.
-const KINDS: usize = 18;
+/// Three kinds and sixteen refusals.
+const KINDS: usize = 19;
 
-/// Numbers of up to 13 bits, by their bits.
-const SIZES: usize = 14;
+/// Parts of up to 16 bits, by their bits.
+const SIZES: usize = 17;
 
 /// Which of the numbers beside the kind.
 const PARTS: usize = 3;
@@ -20,13 +20,14 @@ const PLACES: usize = CALLS * KINDS * SIZES * PARTS;
 #[link_section = "__libfuzzer_extra_counters"]
 static SEEN: [AtomicU8; PLACES] = [const { AtomicU8::new(0) }; PLACES];
 
-/// The call's place among the four.
+/// The call's place among the five.
 #[derive(Clone, Copy)]
 pub enum Call {
     Contain,
     Open,
     Offer,
     Verdict,
+    Write,
 }
 
 /// Notes the number of a call: its kind, and three 16-bit parts above the kind.
@@ -38,7 +39,7 @@ pub fn note(call: Call, number: u64) {
     for part in 0..PARTS {
         let value = number >> (8 + 16 * part) & 0xFFFF;
         let size = (u64::BITS - value.leading_zeros()) as usize;
-        let place = ((call as usize * KINDS + kind) * PARTS + part) * SIZES + size.min(SIZES - 1);
+        let place = ((call as usize * KINDS + kind) * PARTS + part) * SIZES + size;
         SEEN[place].store(1, Ordering::Relaxed);
     }
 }

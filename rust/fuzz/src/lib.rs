@@ -1,5 +1,5 @@
-//! Any bytes as a list of calls on the kernel and on the second checker: contain, and open, offer and verdict on one entry, whose bytes may be
-//! changed between the calls. Every number and every byte of work, word and entry is compared.
+//! Any bytes as a list of calls on the kernel and on the second checker: contain, file_write, and open, offer and verdict on one entry, whose bytes
+//! may be changed between the calls. Every number and every byte of work, word, entry and output is compared.
 
 mod answers;
 mod source;
@@ -8,10 +8,10 @@ use std::panic::catch_unwind;
 use std::process::abort;
 
 use answers::{note, Call};
-use differential::containment::{compare, OUTCOMES};
 use differential::entries::{Calls, History, Tallies};
 use differential::random::Random;
 use differential::tally::Tally;
+use differential::{containment, writing};
 use second::entry::LAST_EDITION;
 use second::ENTRY_BYTES;
 use source::Source;
@@ -23,6 +23,7 @@ const MOST_CALLS: usize = 24;
 pub struct Comparison {
     contain: Tally,
     entries: Tallies,
+    write: Tally,
 }
 
 impl Default for Comparison {
@@ -30,6 +31,7 @@ impl Default for Comparison {
         Comparison {
             contain: Tally::new("contain"),
             entries: Tallies::default(),
+            write: Tally::new("file_write"),
         }
     }
 }
@@ -43,24 +45,28 @@ impl Comparison {
             if source.is_empty() {
                 break;
             }
-            match source.byte() % 8 {
+            let tag = source.byte() % 32;
+            match tag % 8 {
+                0..=2 if tag >= 24 => self.write(source),
                 0..=2 => self.contain(source),
                 7 => forge(source, &mut entry),
                 tag => self.entry_call(source, &mut entry, tag),
             }
         }
-        self.contain.disagreements() + self.entries.disagreements() == 0
+        self.contain.disagreements() + self.entries.disagreements() + self.write.disagreements() == 0
     }
 
     /// Prints the outcomes. True if every outcome of every call came up and nothing disagreed.
     pub fn conclude(&self) -> bool {
-        self.contain.conclude(&OUTCOMES) & self.entries.conclude()
+        self.contain.conclude(&containment::OUTCOMES)
+            & self.entries.conclude()
+            & self.write.conclude(&writing::OUTCOMES)
     }
 
     fn contain(&mut self, source: &mut Source) {
         let files = [source.file(), source.file()];
         let terms = source.terms();
-        let number = compare(
+        let number = containment::compare(
             &mut Random::new(0, 0),
             &mut self.contain,
             "input",
@@ -69,6 +75,13 @@ impl Comparison {
             [terms.work, terms.word],
         );
         note(Call::Contain, number);
+    }
+
+    fn write(&mut self, source: &mut Source) {
+        let file = source.shuffled_file();
+        let room = source.room(file.len());
+        let answer = writing::compare(&mut Random::new(0, 0), &mut self.write, "input", &file, room);
+        note(Call::Write, answer.number);
     }
 
     /// Opens, offers or asks.

@@ -1,8 +1,9 @@
 //! A fuzzer's bytes, read as numbers, files, words and lengths. Past the end every byte is 0, so any bytes have a meaning.
 
-use differential::automata::{damaged, everything, ring, window, Plain};
+use differential::automata::{damaged, everything, full, ring, window, Plain};
 use differential::entries::Terms;
 use differential::random::Random;
+use differential::writing::LONGEST;
 use second::automaton::{MAX_LETTERS, MAX_STATES};
 use second::lasso::MAX_LASSO;
 use second::walk::{MAX_SLOTS, SLOT_BYTES};
@@ -47,15 +48,24 @@ impl<'a> Source<'a> {
         taken
     }
 
-    /// Any bytes, or the file of an automaton, spoilt now and then.
+    /// Any bytes, or the file of an automaton with its records in order, spoilt now and then.
     pub fn file(&mut self) -> Vec<u8> {
+        self.file_by(|_, plain| plain.file())
+    }
+
+    /// The same with the records in any order.
+    pub fn shuffled_file(&mut self) -> Vec<u8> {
+        self.file_by(|source, plain| plain.shuffled_file(&mut source.random()))
+    }
+
+    fn file_by(&mut self, write: impl Fn(&mut Self, &Plain) -> Vec<u8>) -> Vec<u8> {
         let tag = self.byte();
         if tag.is_multiple_of(8) {
             let length = usize::from(self.byte());
             return self.bytes(length).to_vec();
         }
         let plain = self.automaton(tag % 8);
-        let file = plain.file();
+        let file = write(self, &plain);
         self.automata.push(plain);
         if tag < 224 {
             file
@@ -101,10 +111,11 @@ impl<'a> Source<'a> {
         plain
     }
 
-    /// An automaton with many transitions that needs few bytes.
+    /// An automaton with many transitions that needs few bytes; some have all of them, of about as many states and letters as there can be.
     fn regular(&mut self) -> Plain {
         let (tag, size) = (self.byte(), usize::from(self.byte()));
         match tag % 3 {
+            0 if size / 32 == 6 => full(MAX_STATES - size % 4, MAX_LETTERS - size / 4 % 2),
             0 => everything(self.letters()),
             1 => ring(1 + size % MAX_STATES, self.letters()),
             _ => window(2 + size % 12),
@@ -153,6 +164,16 @@ impl<'a> Source<'a> {
                 small @ 0..=199 => small,
                 large => (large - 199) * 100,
             },
+        }
+    }
+
+    /// A length of an output buffer: about that of the file, any, or about that of the longest file.
+    pub fn room(&mut self, file_length: usize) -> usize {
+        let byte = usize::from(self.byte());
+        match byte {
+            0..=191 => (file_length + byte % 8).saturating_sub(4),
+            192..=239 => self.number(),
+            _ => LONGEST - 4 + byte % 8,
         }
     }
 

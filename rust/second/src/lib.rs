@@ -1,10 +1,10 @@
-//! A second Büchi edition checker, written from document 01 alone.
+//! A second Büchi edition checker, written from documents 01 and 02 alone.
 //!
 //! The proved checker is compared with this one. So nothing here is taken from the proved code or from its definitions: the two
-//! agree where both agree with the document. It is plain safe Rust without dependencies, written for speed: state sets are bits
+//! agree where both agree with the documents. It is plain safe Rust without dependencies, written for speed: state sets are bits
 //! of a `u32`, the listed vertices of a walk are found by a hash table, a vertex's counters are the digits of one `u128`.
 //!
-//! One module for each chapter of the document:
+//! One module for each chapter of document 01, and one for each request of document 02 that adds a call:
 //!
 //! | Module | Chapter |
 //! |---|---|
@@ -17,9 +17,10 @@
 //! | [`lasso`] | Verdict |
 //! | [`entry`] | Entry, open, offer |
 //! | [`listing`] | Listing |
+//! | [`write`] | S-1, the fixed form of a file |
 //!
-//! Callers that hold plain bytes and numbers use the five functions below. Each gives one number, as the document says for
-//! `contain` and the vendors' boundary for the entry.
+//! Callers that hold plain bytes and numbers use the functions below. All but `listing` give one number, as document 01 says for
+//! `contain` and the vendors' boundary for the others.
 
 #![forbid(unsafe_code)]
 #![warn(missing_docs)]
@@ -33,7 +34,9 @@ pub mod lasso;
 pub mod listing;
 pub mod refusal;
 pub mod walk;
+pub mod write;
 
 pub use contain::contain;
 pub use entry::{entry_offer, entry_open, entry_verdict, Entry, ENTRY_BYTES};
 pub use listing::listing;
+pub use write::file_write;

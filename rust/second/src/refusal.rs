@@ -1,6 +1,6 @@
 //! The table of refusals.
 
-/// Why a call was refused: one case for each row of the document's table.
+/// Why a call was refused: one case for each row of the table in document 01, and for each number that document 02 adds to it.
 #[derive(Clone, Copy, Debug, PartialEq, Eq)]
 pub enum Refusal {
     /// 1: the file breaks off, within a record or before the end record.
@@ -39,6 +39,11 @@ pub enum Refusal {
     NotSmaller,
     /// 15: the stem or the loop has a wrong length or a letter outside.
     Lasso,
+    /// 16: the output buffer is shorter than the written file.
+    Room {
+        /// The file's length.
+        needed: usize,
+    },
 }
 
 impl Refusal {
@@ -60,6 +65,7 @@ impl Refusal {
             Refusal::Empty => 13,
             Refusal::NotSmaller => 14,
             Refusal::Lasso => 15,
+            Refusal::Room { .. } => 16,
         }
     }
 
@@ -80,6 +86,14 @@ impl Refusal {
     pub fn word_length(self) -> u64 {
         match self {
             Refusal::Word { needed } => needed as u64,
+            _ => 0,
+        }
+    }
+
+    /// The file length that comes with the refusal: the length needed with 16, else 0.
+    pub fn file_length(self) -> u64 {
+        match self {
+            Refusal::Room { needed } => needed as u64,
             _ => 0,
         }
     }

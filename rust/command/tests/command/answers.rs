@@ -180,6 +180,7 @@ fn show_marks_dead_states_and_refuses_broken_files() {
         lines[3],
         "dead: 0 (contain, open and offer refuse this automaton with 6)"
     );
+    assert_eq!(lines[4..], ["fixed form: yes"]);
     folder.write("broken.ba", b"AH\x01\x01\x00AF\x01");
     folder.answers(
         "show broken.ba",

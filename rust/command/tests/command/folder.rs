@@ -1,7 +1,7 @@
 //! A folder of a test's own, and runs of the command in it.
 
 use std::ffi::OsStr;
-use std::fs::{self, File};
+use std::fs::{self, File, OpenOptions};
 use std::path::{Path, PathBuf};
 use std::process::{Child, Command, Output, Stdio};
 
@@ -78,6 +78,38 @@ impl Folder {
     pub fn run_on(&self, input: &str, words: &[&str]) -> Run {
         let file = File::open(self.path(input)).expect("a file");
         Run::of(self.command(words).stdin(file).output().expect("a run"))
+    }
+
+    /// Runs the words, given with single spaces between them, with a standard output that takes no byte.
+    pub fn run_untold(&self, words: &str) -> Run {
+        let full = OpenOptions::new().write(true).open("/dev/full");
+        let mut command = self.command(&words.split(' ').collect::<Vec<_>>());
+        Run::of(command.stdout(full.expect("the full device")).output().expect("a run"))
+    }
+
+    /// The library that stops a program, compiled.
+    pub fn stopper(&self) -> PathBuf {
+        let library = self.path("stop.so");
+        let source = concat!(env!("CARGO_MANIFEST_DIR"), "/tests/command/stop.c");
+        let mut compiler = Command::new("cc");
+        compiler
+            .args([
+                "-std=c99", "-Wall", "-Wextra", "-Werror", "-O1", "-shared", "-fPIC", "-o",
+            ])
+            .arg(&library)
+            .arg(source);
+        assert!(compiler.status().expect("a C compiler").success());
+        library
+    }
+
+    /// The command with these words, to be stopped by the library at this call.
+    pub fn stopped(&self, words: &[&str], library: &Path, call: usize, how: &str) -> Command {
+        let mut command = self.command(words);
+        command
+            .env("LD_PRELOAD", library)
+            .env("STOP_AT", call.to_string())
+            .env("STOP_HOW", how);
+        command
     }
 
     pub fn start(&self, words: &[&str]) -> Child {

@@ -3,7 +3,7 @@
 use crate::folder::Folder;
 
 /// Each command that takes an automaton file, with `-` in each of its places; the file that comes in, and the first line printed.
-const LINES: [(&str, &str, i32, &str); 9] = [
+const LINES: [(&str, &str, i32, &str); 10] = [
     (
         "listing - g.ba 1",
         "f.ba",
@@ -21,6 +21,7 @@ const LINES: [(&str, &str, i32, &str); 9] = [
     ("contain g.ba -- - 0", "f.ba", 1, "differs: place 2, word 0"),
     ("open s -", "f.ba", 0, "opened: edition 0, 4 states"),
     ("offer s - 1", "g.ba", 0, "taken: edition 1, states 3 of 4, walks 5 8"),
+    ("write - w.ba", "g.ba", 0, "written: 53 bytes"),
     ("show -", "g.ba", 0, "automaton: 3 states, 2 letters, 8 transitions"),
     (
         "contain f.ba - 1",

@@ -3,6 +3,7 @@
 use std::str::Chars;
 
 use crate::folder::Folder;
+use crate::write::MIXED;
 
 /// Reads one JSON value as RFC 8259 has it, as far as the command writes them: no signs, fractions and exponents.
 struct Reader<'a> {
@@ -27,10 +28,16 @@ impl Reader<'_> {
             }),
             Some('[') => self.items('[', ']', Reader::value),
             Some('"') => self.text(),
-            Some('n') => "null".chars().for_each(|letter| self.take(letter)),
+            Some('n') => self.name("null"),
+            Some('t') => self.name("true"),
+            Some('f') => self.name("false"),
             Some('0') => self.take('0'),
             other => self.number(other),
         }
+    }
+
+    fn name(&mut self, name: &str) {
+        name.chars().for_each(|letter| self.take(letter));
     }
 
     fn number(&mut self, first: Option<char>) {
@@ -91,6 +98,7 @@ fn every_answer_has_its_counts_words_and_advice() {
     folder.write("cut.ba", b"AH");
     folder.write("long.ba", &[0; 65537]);
     folder.write("empty", &[0; 2061]);
+    folder.write("mixed.ba", MIXED);
     let lines: Vec<&str> = include_str!("answers.txt").lines().collect();
     for pair in lines.chunks(2) {
         let (words, wanted) = (pair[0].split(' ').collect::<Vec<_>>(), pair[1]);

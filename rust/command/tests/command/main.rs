@@ -1,4 +1,5 @@
-//! Runs the built command: answers, wrong use, standard input, JSON, pictures, never claims, and what kills and faults leave of a STORE.
+//! Runs the built command: answers, wrong use, standard input, JSON, pictures, never claims, files written, and what kills and faults leave of a
+//! STORE and of a written file.
 
 mod answers;
 mod folder;
@@ -7,4 +8,5 @@ mod json;
 mod never;
 mod pictures;
 mod store;
+mod write;
 mod wrong_use;

@@ -3,7 +3,7 @@
 use std::fs::{self, File, OpenOptions, Permissions};
 use std::io;
 use std::os::unix::fs::{symlink, PermissionsExt};
-use std::process::{Child, Command};
+use std::process::Child;
 use std::thread::sleep;
 use std::time::Duration;
 
@@ -25,26 +25,11 @@ fn finished(run: Child) -> Run {
     Run::of(run.wait_with_output().expect("a run"))
 }
 
-/// The library that stops a program, compiled.
-fn stopper(folder: &Folder) -> std::path::PathBuf {
-    let library = folder.path("stop.so");
-    let source = concat!(env!("CARGO_MANIFEST_DIR"), "/tests/command/stop.c");
-    let mut compiler = Command::new("cc");
-    compiler
-        .args([
-            "-std=c99", "-Wall", "-Wextra", "-Werror", "-O1", "-shared", "-fPIC", "-o",
-        ])
-        .arg(&library)
-        .arg(source);
-    assert!(compiler.status().expect("a C compiler").success());
-    library
-}
-
 /// Offers G to a STORE that holds F, stopped at each of its calls in turn until one is stopped at none. Gives the runs that
 /// were stopped, and whether the STORE has G after them. The statuses are those of a run that is stopped before and after it has.
 fn stopped(test: &str, how: &str, statuses: [i32; 2]) -> Vec<(Run, bool)> {
     let folder = with_store(test);
-    let library = stopper(&folder);
+    let library = folder.stopper();
     let old = folder.read("s");
     folder.answers("offer s g.ba 1", 0, "taken: edition 1, states 3 of 4, walks 5 8");
     let new = folder.read("s");
@@ -52,11 +37,7 @@ fn stopped(test: &str, how: &str, statuses: [i32; 2]) -> Vec<(Run, bool)> {
     loop {
         let call = runs.len() + 1;
         folder.write("s", &old);
-        let mut command = folder.command(&["offer", "s", "g.ba", "1"]);
-        command
-            .env("LD_PRELOAD", &library)
-            .env("STOP_AT", format!("{call}"))
-            .env("STOP_HOW", how);
+        let mut command = folder.stopped(&["offer", "s", "g.ba", "1"], &library, call, how);
         let run = Run::of(command.output().expect("a run"));
         let left = folder.read("s");
         assert!(
@@ -114,13 +95,6 @@ fn a_fault_of_the_disk_is_told_and_leaves_the_old_entry_or_says_that_it_is_repla
     }
 }
 
-/// Runs the words with a standard output that takes no byte.
-fn untold(folder: &Folder, words: &str) -> Run {
-    let full = OpenOptions::new().write(true).open("/dev/full");
-    let mut command = folder.command(&words.split(' ').collect::<Vec<_>>());
-    Run::of(command.stdout(full.expect("the full device")).output().expect("a run"))
-}
-
 #[test]
 fn a_replaced_store_is_told_where_the_answer_cannot_be_written() {
     let folder = Folder::new("untold");
@@ -134,12 +108,12 @@ fn a_replaced_store_is_told_where_the_answer_cannot_be_written() {
             "s is replaced (taken: edition 1, states 3 of 4, walks 5 8), but cannot write",
         ),
     ] {
-        let run = untold(&folder, words);
+        let run = folder.run_untold(words);
         assert!(run.status == 4 && run.err.starts_with(done), "{words}: {run:?}");
     }
     folder.answers("show s", 0, "entry: edition 1, first edition of 4 states");
     for words in ["offer s g.ba 1", "open s f.ba", "verdict s 0 0", "show s"] {
-        let run = untold(&folder, words);
+        let run = folder.run_untold(words);
         assert!(
             run.status == 3 && run.err.starts_with("cannot write the answer: "),
             "{words}: {run:?}"
@@ -151,7 +125,7 @@ fn a_replaced_store_is_told_where_the_answer_cannot_be_written() {
 #[test]
 fn with_a_fault_besides_a_replaced_store_is_told_too() {
     let folder = with_store("untold_fault");
-    let library = stopper(&folder);
+    let library = folder.stopper();
     let old = folder.read("s");
     let (mut replaced, mut silent) = (0, 0);
     for call in 1..=20 {
@@ -160,11 +134,7 @@ fn with_a_fault_besides_a_replaced_store_is_told_too() {
             .write(true)
             .open("/dev/full")
             .expect("the full device");
-        let mut command = folder.command(&["offer", "s", "g.ba", "1", "--json"]);
-        command
-            .env("LD_PRELOAD", &library)
-            .env("STOP_AT", call.to_string())
-            .env("STOP_HOW", "fail");
+        let mut command = folder.stopped(&["offer", "s", "g.ba", "1", "--json"], &library, call, "fail");
         let run = Run::of(command.stdout(full).output().expect("a run"));
         let new = folder.read("s") != old;
         assert_eq!(run.status, if new { 4 } else { 3 }, "call {call}: {run:?}");
@@ -217,15 +187,10 @@ fn no_lock_stays_beside_what_is_no_store() {
 #[test]
 fn an_open_that_fails_leaves_nothing() {
     let folder = Folder::new("failed_open");
-    let library = stopper(&folder);
+    let library = folder.stopper();
     let mut failed = 0;
     loop {
-        let mut command = folder.command(&["open", "s", "f.ba"]);
-        let call = (failed + 1).to_string();
-        command
-            .env("LD_PRELOAD", &library)
-            .env("STOP_AT", call)
-            .env("STOP_HOW", "fail");
+        let mut command = folder.stopped(&["open", "s", "f.ba"], &library, failed + 1, "fail");
         let run = Run::of(command.output().expect("a run"));
         let left = folder.names("s");
         match run.status {

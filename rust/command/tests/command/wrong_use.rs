@@ -17,11 +17,11 @@ fn fails(folder: &Folder, words: &str, text: &str) {
 }
 
 /// Wrong lines, and what is said of them.
-const WRONG: [(&str, &str); 25] = [
+const WRONG: [(&str, &str); 32] = [
     ("", "usage:"),
     (
         "close s",
-        "there is no command close; the commands are listing, contain, open, offer, verdict, show",
+        "there is no command close; the commands are listing, contain, open, offer, verdict, write, show",
     ),
     (
         "contain f.ba g.ba",
@@ -61,6 +61,19 @@ const WRONG: [(&str, &str); 25] = [
     ("open s - -", "open takes 2 operands, not 3"),
     ("verdict s 0;1 0", "STEM is letters in decimal with commas between them"),
     ("verdict s 0 0,", "LOOP is letters in decimal with commas between them"),
+    (
+        "write",
+        "write takes 1 or 2 operands, not 0\nusage: edition write FILE [OUT] [--json]",
+    ),
+    ("write f.ba s s", "write takes 1 or 2 operands, not 3"),
+    (
+        "write f.ba -",
+        "OUT is the name of a file, and - is standard input; without OUT the file goes to standard output",
+    ),
+    ("write - -", "OUT is the name of a file"),
+    ("write f.ba --slots 3", "write takes no --slots"),
+    ("write f.ba s --dot", "write draws no picture"),
+    ("write f.ba --never", "write prints no never claim"),
 ];
 
 #[test]
@@ -87,7 +100,13 @@ fn missing_and_unreadable_files_are_told() {
         ] {
             fails(&folder, &words.replace("NAME", name), &text);
         }
-        for words in ["open s NAME", "offer s NAME 1", "show NAME"] {
+        for words in [
+            "open s NAME",
+            "offer s NAME 1",
+            "show NAME",
+            "write NAME",
+            "write NAME s",
+        ] {
             fails(&folder, &words.replace("NAME", name), &text);
         }
     }
@@ -97,6 +116,7 @@ fn missing_and_unreadable_files_are_told() {
         fails(&folder, words, "cannot read ");
     }
     fails(&folder, "open none/s f.ba", "cannot open none/s.lock: ");
+    fails(&folder, "write f.ba none/s", "cannot open none/s.lock: ");
     assert_eq!(folder.names("s"), [""; 0]);
 }
 
@@ -151,20 +171,25 @@ fn an_endless_file_is_not_read_to_its_end() {
 }
 
 #[test]
-fn a_stores_name_is_none_of_the_files_beside_it() {
+fn a_name_of_a_store_or_out_is_none_of_the_files_beside_it() {
     let folder = Folder::new("names");
-    fails(
-        &folder,
+    for words in [
         "open s.lock f.ba",
-        "names that end in .lock or .unfinished are for files beside a STORE",
-    );
-    fails(
-        &folder,
         "open s.unfinished f.ba",
-        "names that end in .lock or .unfinished are for files beside a STORE",
-    );
+        "write f.ba s.lock",
+        "write f.ba s.unfinished",
+    ] {
+        fails(
+            &folder,
+            words,
+            "names that end in .lock or .unfinished are for files beside a STORE or an OUT",
+        );
+    }
     symlink("nowhere", folder.path("link")).expect("a link");
-    fails(&folder, "open link f.ba", "cannot read link: ");
+    for words in ["open link f.ba", "write f.ba link"] {
+        fails(&folder, words, "cannot read link: ");
+    }
+    assert_eq!(folder.names("s"), [""; 0]);
 }
 
 #[test]
@@ -205,10 +230,10 @@ fn help_names_every_command_and_has_examples() {
     let folder = Folder::new("help");
     let all = folder.run(&["--help"]);
     assert!(all.status == 0 && all.err.is_empty(), "{all:?}");
-    for limit in ["1,048,576 bytes", "65,536", "4 the STORE is replaced, but "] {
+    for limit in ["1,048,576 bytes", "65,536", "4 the STORE or OUT is replaced, but "] {
         assert!(all.out.contains(limit), "{limit}: {all:?}");
     }
-    for command in ["listing", "contain", "open", "offer", "verdict", "show"] {
+    for command in ["listing", "contain", "open", "offer", "verdict", "write", "show"] {
         let one = folder.run(&[command, "--help"]);
         let example = format!("  ./edition {command} ");
         assert!(

@@ -301,3 +301,23 @@ pub fn walk(left: &Plain, right: &Plain, bound: u8, work: &[u8], word: &[u8]) ->
     }
     expected
 }
+
+/// The fixed form: every state, and every from, letter and to, is looked at in turn.
+pub fn written(automaton: &Plain) -> Vec<u8> {
+    let (states, letters) = (automaton.states, automaton.letters);
+    let mut file = vec![0x41, 0x48, states as u8, letters as u8, automaton.initial as u8];
+    for q in 0..states {
+        if automaton.accepts_at(q) {
+            file.extend([0x41, 0x46, q as u8]);
+        }
+    }
+    for q in 0..states {
+        for a in 0..letters {
+            for r in automaton.targets(q, a) {
+                file.extend([0x41, 0x54, q as u8, a as u8, r as u8]);
+            }
+        }
+    }
+    file.extend([0x41, 0x45]);
+    file
+}

@@ -4,7 +4,7 @@ use second::automaton::Automaton;
 use second::file::read;
 
 use crate::random::Random;
-use crate::worked::{f, g, h, j, Plain};
+use crate::worked::{f, full, g, h, j, Plain};
 
 /// The refusal's number; 0 if there is none.
 fn refusal(file: &[u8]) -> u8 {
@@ -120,38 +120,14 @@ fn the_automaton_is_the_one_that_the_records_list_in_any_order() {
     for _ in 0..300 {
         let (states, letters) = (1 + random.below(32), 1 + random.below(16));
         let plain = random.automaton(states, letters, 1);
-        let file = plain.file();
-        let (header, end) = (&file[..5], &file[file.len() - 2..]);
-        let mut records: Vec<Vec<u8>> = Vec::new();
-        for &q in &plain.accepting {
-            records.push(vec![0x41, 0x46, q as u8]);
-        }
-        for &(q, a, r) in &plain.transitions {
-            records.push(vec![0x41, 0x54, q as u8, a as u8, r as u8]);
-        }
-        for place in (1..records.len()).rev() {
-            records.swap(place, random.below(place + 1));
-        }
-        let file = [header, &records.concat(), end].concat();
+        let file = random.shuffled_file(&plain);
         assert!(same(&read(&file).unwrap(), &plain));
     }
 }
 
 #[test]
 fn the_longest_file_is_read() {
-    let mut plain = Plain {
-        states: 32,
-        letters: 16,
-        initial: 31,
-        accepting: (0..32).collect(),
-        transitions: Vec::new(),
-    };
-    for q in 0..32 {
-        for a in 0..16 {
-            plain.transitions.extend((0..32).map(|r| (q, a, r)));
-        }
-    }
-    let mut file = plain.file();
+    let mut file = full(32, 16).file();
     assert_eq!(file.len(), 5 + 32 * 3 + 16_384 * 5 + 2);
     assert_eq!(read(&file).unwrap().transition_count(), 16_384);
     let end = file.len() - 2;

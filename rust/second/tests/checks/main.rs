@@ -1,5 +1,5 @@
-//! The second checker's tests: the document's worked cases and table, and comparisons on small automata with what the
-//! document's definitions say when they are carried out literally (`definitions`).
+//! The second checker's tests: the documents' worked cases and table, and comparisons on small automata with what the
+//! documents' definitions say when they are carried out literally (`definitions`).
 
 mod contain;
 mod dead;
@@ -12,3 +12,4 @@ mod listing;
 mod random;
 mod walk;
 mod worked;
+mod write;

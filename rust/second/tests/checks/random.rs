@@ -39,6 +39,15 @@ impl Random {
         (0..length).map(|_| self.below(letters) as u8).collect()
     }
 
+    /// The automaton's file with its records in any order.
+    pub fn shuffled_file(&mut self, automaton: &Plain) -> Vec<u8> {
+        let mut records = automaton.records();
+        for place in (1..records.len()).rev() {
+            records.swap(place, self.below(place + 1));
+        }
+        automaton.file_of(&records)
+    }
+
     /// An automaton in which a state has `degree` targets on a letter on average.
     pub fn automaton(&mut self, states: usize, letters: usize, degree: usize) -> Plain {
         let initial = self.below(states);

@@ -23,18 +23,22 @@ impl Plain {
         (0..self.states).filter(there).collect()
     }
 
-    pub fn file(&self) -> Vec<u8> {
+    /// The records between header and end, in the order of the lists.
+    pub fn records(&self) -> Vec<Vec<u8>> {
+        let accepting = self.accepting.iter().map(|&q| vec![0x41, 0x46, q as u8]);
+        let transitions = self.transitions.iter();
+        let transitions = transitions.map(|&(q, a, r)| vec![0x41, 0x54, q as u8, a as u8, r as u8]);
+        accepting.chain(transitions).collect()
+    }
+
+    /// The file with these records.
+    pub fn file_of(&self, records: &[Vec<u8>]) -> Vec<u8> {
         let header = [self.states, self.letters, self.initial].map(|value| value as u8);
-        let mut file = vec![0x41, 0x48];
-        file.extend(header);
-        for &state in &self.accepting {
-            file.extend([0x41, 0x46, state as u8]);
-        }
-        for &(from, letter, to) in &self.transitions {
-            file.extend([0x41, 0x54, from as u8, letter as u8, to as u8]);
-        }
-        file.extend([0x41, 0x45]);
-        file
+        [&[0x41, 0x48], header.as_slice(), &records.concat(), &[0x41, 0x45]].concat()
+    }
+
+    pub fn file(&self) -> Vec<u8> {
+        self.file_of(&self.records())
     }
 
     /// The checker's value for this automaton.
@@ -108,6 +112,23 @@ pub fn ring(states: usize) -> Plain {
     }
 }
 
+/// All states accept, and there is every transition; the run begins in the last state.
+pub fn full(states: usize, letters: usize) -> Plain {
+    let mut transitions = Vec::new();
+    for from in 0..states {
+        for letter in 0..letters {
+            transitions.extend((0..states).map(|to| (from, letter, to)));
+        }
+    }
+    Plain {
+        states,
+        letters,
+        initial: states - 1,
+        accepting: (0..states).collect(),
+        transitions,
+    }
+}
+
 /// Never accepts on letter 0; letter 1 leads to an accepting loop.
 pub fn idle() -> Plain {
     begun(2, &[1], [&[&[0], &[1]], &[&[1]]])
@@ -115,12 +136,7 @@ pub fn idle() -> Plain {
 
 /// Every automaton with this many states and letters; 18 possible transitions at most.
 pub fn all(states: usize, letters: usize) -> impl Iterator<Item = Plain> {
-    let mut places = Vec::new();
-    for from in 0..states {
-        for letter in 0..letters {
-            places.extend((0..states).map(|to| (from, letter, to)));
-        }
-    }
+    let places = full(states, letters).transitions;
     assert!(places.len() <= 18);
     let chosen = 1_u32 << places.len();
     (0..states).flat_map(move |initial| {

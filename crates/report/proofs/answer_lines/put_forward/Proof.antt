@@ -2,7 +2,7 @@
 use borrow.Author.Needs.{needs}
 use Rattle.text.specs.Text.{letters}
 use Rattle.report.specs.Line.{offerLine, newline, wordText}
-use Rattle.text.proofs.Buffers.{written-append, written-three}
+use Rattle.buffers.proofs.Buffers.{written-append, written-three}
 use Rattle.report.proofs.answer_lines.put_forward.Statement.{statement}
 use Rattle.report.proofs.answer_lines.put_forward.Tie as tie
 

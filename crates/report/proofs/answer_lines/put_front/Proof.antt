@@ -1,7 +1,7 @@
 -- `report::answer_lines::put_front` meets its contract: the outcome, the fields, the count and a space, one after another. Assumes nothing.
 use borrow.Author.Needs.{needs}
 use native.Mathlib.Omega.{arith}
-use Rattle.text.proofs.Buffers.{written-append}
+use Rattle.buffers.proofs.Buffers.{written-append}
 use Rattle.report.proofs.answer_lines.put_front.Statement.{statement}
 use Rattle.report.proofs.answer_lines.put_front.Tie as tie
 

@@ -1,7 +1,7 @@
 -- `report::answer_lines::put_refused` meets its contract: the text, the number and the newline, one after another. Assumes nothing.
 use borrow.Author.Needs.{needs}
 use Rattle.report.specs.Line.{refusedLine}
-use Rattle.text.proofs.Buffers.{written-append}
+use Rattle.buffers.proofs.Buffers.{written-append}
 use Rattle.report.proofs.answer_lines.put_refused.Statement.{statement}
 use Rattle.report.proofs.answer_lines.put_refused.Tie as tie
 

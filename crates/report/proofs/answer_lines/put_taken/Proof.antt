@@ -1,7 +1,7 @@
 -- `report::answer_lines::put_taken` meets its contract: the front, the back count and the newline, one after another. Assumes nothing.
 use borrow.Author.Needs.{needs}
 use Rattle.report.specs.Line.{offerLine}
-use Rattle.text.proofs.Buffers.{written-append}
+use Rattle.buffers.proofs.Buffers.{written-append}
 use Rattle.report.proofs.answer_lines.put_taken.Statement.{statement}
 use Rattle.report.proofs.answer_lines.put_taken.Tie as tie
 

@@ -1,6 +1,6 @@
 -- `report::answer_lines::put_word` meets its contract: the text, the letters and the newline, one after another. Assumes nothing.
 use borrow.Author.Needs.{needs}
-use Rattle.text.proofs.Buffers.{written-append}
+use Rattle.buffers.proofs.Buffers.{written-append}
 use Rattle.report.proofs.answer_lines.put_word.Statement.{statement}
 use Rattle.report.proofs.answer_lines.put_word.Tie as tie
 

@@ -10,7 +10,7 @@ use Rattle.text.proofs.parts.put_digits.Reads as put-digits
 use Rattle.text.proofs.parts.put_digits.Kinds as put-digits-kinds
 use Rattle.text.proofs.parts.+put_digits.Lts-put_digits as put-digits-lts
 use Rattle.text.proofs.parts.digit.Reads as digit-reads
-use Rattle.text.proofs.parts.put_byte.Reads as put-byte-reads
+use Rattle.buffers.proofs.put_byte.Reads as put-byte-reads
 use Rattle.text.proofs.parts.+put_digits.{statement}
 use Rattle.text.proofs.parts.+put_digits.Tie.{close}
 

@@ -1,7 +1,7 @@
 -- `text::parts::put_field` meets its contract: a text and a number behind it. Assumes nothing.
 use native.Mathlib.Omega.{arith}
 use borrow.Author.Needs.{needs}
-use Rattle.text.proofs.Buffers.{written-append}
+use Rattle.buffers.proofs.Buffers.{written-append}
 use Rattle.text.proofs.parts.put_field.Statement.{statement}
 use Rattle.text.proofs.parts.put_field.Tie as tie
 

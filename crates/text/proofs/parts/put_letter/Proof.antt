@@ -1,7 +1,7 @@
 -- `text::parts::put_letter` meets its contract: a space, and a number below 256, which has at most 3 digits. Assumes nothing.
 use native.Mathlib.Omega.{arith}
 use borrow.Author.Needs.{needs}
-use Rattle.text.proofs.Buffers.{written-append}
+use Rattle.buffers.proofs.Buffers.{written-append}
 use Rattle.text.proofs.Decimals.{decimal-length}
 use Rattle.text.proofs.parts.put_letter.Statement.{statement}
 use Rattle.text.proofs.parts.put_letter.Tie as tie

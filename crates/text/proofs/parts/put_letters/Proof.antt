@@ -5,9 +5,9 @@ use Prim.Native.Nat.{ℕ, _+_, _-_, _*_, _≤_}
 use native.Mathlib.Omega.{arith}
 use lib.ListN.{length, take}
 use lib.Seq.{take-length}
-use Rattle.text.specs.Buffers.{Written}
+use Rattle.buffers.specs.Buffers.{Written}
 use Rattle.text.specs.Text.{letters}
-use Rattle.text.proofs.Buffers.{written-nothing, written-append, written-as, written-length}
+use Rattle.buffers.proofs.Buffers.{written-nothing, written-append, written-as, written-length}
 use Rattle.text.proofs.Letters.{letters-more}
 use Rattle.text.proofs.parts.put_letters.Statement.{statement}
 use Rattle.text.proofs.parts.put_letters.Tie as tie

@@ -1,0 +1,3 @@
+-- Laws of bytes written into a lent buffer.
+pub mod Buffers
+pub mod Left

@@ -1,0 +1,2 @@
+-- Checks in order, as tables of rows.
+pub mod Checks

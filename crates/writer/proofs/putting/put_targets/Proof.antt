@@ -1,0 +1,64 @@
+-- `put_targets` meets its contract: the records of the members of the row. Assumes nothing.
+use Prim.Native.Nat.{_-_}
+use native.Mathlib.Omega.{arith}
+use borrow.Author.Needs.{needs}
+use Rattle.automaton.specs.Sets.{bit}
+use Rattle.format.specs.Writing.{transition-item}
+use Rattle.writer.proofs.Records.{Listing, listing-start, listing-length, listing-room, listing-more, listing-less, listing-end}
+use Rattle.writer.proofs.putting.put_targets.Statement.{statement}
+use Rattle.writer.proofs.putting.put_targets.Tie as tie
+
+abbrev Inv-loop : tie.InvT-loop
+Inv-loop out₀ at row states q a next₀ r₀ out next r = Listing (transition-item q a) (bit row) states out₀ at out next r
+
+abbrev μ-loop : tie.MeasureT-loop
+μ-loop out₀ at row states q a next₀ r₀ out next r = 32 - r
+
+next-state-requires : tie.Need-next-state-requires Inv-loop μ-loop
+next-state-requires c κs = search needs
+
+loop-holds : tie.Need-loop-holds Inv-loop μ-loop
+loop-holds c = listing-start _ _ (c .next-state .result) (omega arith) (c .next-state .ensures)
+
+put-three-requires : tie.Need-put-three-requires Inv-loop μ-loop
+put-three-requires c κs =
+    let s = c .before .before .before .before .before in
+    (omega arith, omega arith, omega arith, listing-room (c .before .before .loop .inv) (omega arith) (s .pre .0 .0) (s .pre .1))
+
+add-next-state : tie.Need-add-next-state Inv-loop μ-loop
+add-next-state c = omega arith
+
+next-state-requires-2 : tie.Need-next-state-requires-2 Inv-loop μ-loop
+next-state-requires-2 c κs = search needs
+
+loop-less : tie.Need-loop-less Inv-loop μ-loop
+loop-less c =
+    let l = c .before .before .before .before .before .before .loop in
+    listing-less (l .inv) (omega arith) (omega arith) (c .next-state2 .result) (c .next-state2 .ensures)
+
+loop-again : tie.Need-loop-again Inv-loop μ-loop
+loop-again c =
+    let l = c .before .before .before .before .before .before .loop in
+    listing-more (l .inv) (omega arith) (omega arith) (c .next-state2 .result) (c .next-state2 .ensures) (c .before .before .before .put-three .ensures)
+
+same-length : tie.Need-same-length Inv-loop μ-loop
+same-length c = listing-length (c .before .loop .inv)
+
+returns : tie.Need-returns Inv-loop μ-loop
+returns c = listing-end (c .before .loop .inv) (omega arith)
+
+pub put-targets-spec : {M : Type 1} → statement M
+put-targets-spec =
+    tie.close
+    (tie.spec
+    Inv-loop
+    μ-loop
+    next-state-requires
+    loop-holds
+    put-three-requires
+    add-next-state
+    next-state-requires-2
+    loop-less
+    loop-again
+    same-length
+    returns)

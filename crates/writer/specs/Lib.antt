@@ -1,0 +1,2 @@
+-- The bytes of the fixed form, part by part.
+pub mod Parts

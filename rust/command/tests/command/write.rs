@@ -1,0 +1,239 @@
+//! `write`: a file's automaton in the fixed form, on standard output or in OUT, and what is left of OUT whatever happens.
+
+use std::fs::{self, Permissions};
+use std::os::unix::fs::{symlink, PermissionsExt};
+use std::os::unix::net::UnixListener;
+
+use crate::folder::{Folder, Run};
+
+/// J of document 01, with its records in another order.
+pub const MIXED: &[u8] = b"AH\x02\x01\x00AT\x01\x00\x01AT\x00\x00\x01AF\x01AE";
+
+/// A folder with such a file, and one that is cut short.
+fn with_mixed(test: &str) -> Folder {
+    let folder = Folder::new(test);
+    folder.write("mixed.ba", MIXED);
+    folder.write("cut.ba", &MIXED[..9]);
+    folder
+}
+
+#[test]
+fn without_out_the_file_alone_stands_on_standard_output() {
+    let folder = with_mixed("write_output");
+    let j = folder.read("j.ba");
+    for run in [
+        folder.run(&["write", "mixed.ba"]),
+        folder.run(&["write", "j.ba"]),
+        folder.run_on("mixed.ba", &["write", "-"]),
+    ] {
+        assert_eq!(
+            (run.status, run.out.as_bytes(), run.err.as_str()),
+            (0, j.as_slice(), ""),
+            "{run:?}"
+        );
+    }
+    let run = folder.run(&["write", "cut.ba"]);
+    assert!(run.status == 2 && run.out.is_empty(), "{run:?}");
+    assert!(
+        run.err.starts_with("refused 1: ") && run.err.contains("\nwhat to do: "),
+        "{run:?}"
+    );
+    let run = folder.run_untold("write mixed.ba");
+    assert!(
+        run.status == 3 && run.err.starts_with("cannot write the answer: "),
+        "{run:?}"
+    );
+}
+
+#[test]
+fn out_is_made_or_replaced_and_may_be_the_file_itself() {
+    let folder = with_mixed("write_out");
+    let j = folder.read("j.ba");
+    folder.write("old.ba", &[b'A'; 100_000]);
+    for words in [
+        "write mixed.ba new.ba",
+        "write mixed.ba old.ba",
+        "write j.ba j.ba",
+        "write mixed.ba mixed.ba",
+    ] {
+        folder.answers(words, 0, "written: 20 bytes");
+    }
+    for name in ["new.ba", "old.ba", "j.ba", "mixed.ba"] {
+        assert_eq!(folder.read(name), j, "{name}");
+        assert_eq!(folder.names(name), [name]);
+    }
+    folder.answers("write dead.ba dead.ba", 0, "written: 7 bytes");
+    assert_eq!(folder.read("dead.ba"), b"AH\x01\x01\x00AE");
+    let run = folder.run_untold("write f.ba new.ba");
+    assert!(
+        run.status == 4
+            && run
+                .err
+                .starts_with("new.ba is replaced (written: 50 bytes), but cannot write the answer: "),
+        "{run:?}"
+    );
+    assert_eq!(folder.read("new.ba"), folder.read("f.ba"));
+}
+
+#[test]
+fn a_refused_write_leaves_out_as_it_was() {
+    let folder = with_mixed("write_refused");
+    for words in ["write cut.ba cut.ba", "write cut.ba g.ba", "write cut.ba new.ba"] {
+        folder.answers(
+            words,
+            2,
+            "refused 1: the file ends inside a record or has no end record",
+        );
+    }
+    assert_eq!(folder.read("cut.ba"), &MIXED[..9]);
+    assert_eq!(folder.read("g.ba").len(), 53);
+    assert_eq!(folder.names("cut.ba"), ["cut.ba"]);
+    assert_eq!(folder.names("g.ba"), ["g.ba"]);
+    assert_eq!(folder.names("new"), [""; 0]);
+}
+
+/// A STORE changes by open and offer alone, and what is renamed over a socket, a device or a folder would take its place.
+#[test]
+fn a_store_and_what_is_no_plain_file_are_no_out() {
+    let folder = Folder::new("write_no_out");
+    folder.answers("open s f.ba", 0, "opened: edition 0, 4 states");
+    folder.write("t", &[0; 2061]);
+    fs::create_dir(folder.path("d")).expect("a folder");
+    let _socket = UnixListener::bind(folder.path("socket")).expect("a socket");
+    let stores = ["s", "t"].map(|name| folder.read(name));
+    for (name, text) in [
+        ("s", "it is a STORE, which open and offer alone replace"),
+        ("t", "it is a STORE, which open and offer alone replace"),
+        ("d", "it is no plain file"),
+        ("socket", "it is no plain file"),
+    ] {
+        let run = folder.run(&["write", "g.ba", name]);
+        assert!(run.status == 3 && run.out.is_empty(), "{run:?}");
+        assert!(
+            run.err.starts_with("cannot replace ") && run.err.contains(text),
+            "{run:?}"
+        );
+    }
+    assert_eq!(["s", "t"].map(|name| folder.read(name)), stores);
+    assert_eq!(folder.names("s"), ["s", "s.lock", "socket"]);
+    assert_eq!((folder.names("t"), folder.names("d.")), (vec!["t".into()], vec![]));
+}
+
+#[test]
+fn a_link_to_out_stays_a_link_and_permissions_stay() {
+    let folder = with_mixed("write_link");
+    folder.write("out.ba", b"A");
+    fs::set_permissions(folder.path("out.ba"), Permissions::from_mode(0o640)).expect("permissions");
+    symlink("out.ba", folder.path("link.ba")).expect("a link");
+    folder.answers("write mixed.ba link.ba", 0, "written: 20 bytes");
+    assert_eq!(folder.read("out.ba"), folder.read("j.ba"));
+    assert!(folder.path("link.ba").is_symlink());
+    let kept = fs::metadata(folder.path("out.ba")).expect("OUT").permissions();
+    assert_eq!(kept.mode() & 0o777, 0o640);
+    assert_eq!(
+        (folder.names("link"), folder.names("out")),
+        (vec!["link.ba".into()], vec!["out.ba".into()])
+    );
+}
+
+/// Writes a file over itself, stopped at each of twenty calls in turn, of which the last are past its end. Gives the runs, and whether the file
+/// is in the fixed form after them.
+fn stopped(test: &str, how: &str) -> Vec<(Run, bool)> {
+    let folder = Folder::new(test);
+    let library = folder.stopper();
+    let j = folder.read("j.ba");
+    let words = ["write", "a.ba", "a.ba"];
+    let stop = |call| {
+        folder.write("a.ba", MIXED);
+        let run = Run::of(folder.stopped(&words, &library, call, how).output().expect("a run"));
+        let left = folder.read("a.ba");
+        assert!(left == MIXED || left == j, "call {call} left a part of a file: {run:?}");
+        let again = folder.run(&words);
+        assert_eq!(again.out, "written: 20 bytes\n", "after call {call}: {again:?}");
+        assert_eq!(folder.read("a.ba"), j, "after call {call}");
+        assert_eq!(folder.names("a.ba"), ["a.ba"], "after call {call}");
+        (run, left == j)
+    };
+    (1..=20).map(stop).collect()
+}
+
+#[test]
+fn a_kill_at_any_call_leaves_the_old_file_or_the_new_one() {
+    let runs = stopped("write_kill", "kill");
+    let renamed = runs.iter().position(|&(_, new)| new).expect("a kill after the rename");
+    let ended = runs
+        .iter()
+        .position(|(run, _)| run.status == 0)
+        .expect("a run to the end");
+    assert!(6 < renamed && renamed < ended, "{runs:?}");
+    for (place, (run, new)) in runs.iter().enumerate() {
+        let wanted = (if place < ended { -1 } else { 0 }, place >= renamed);
+        assert_eq!((run.status, *new), wanted, "call {}: {run:?}", place + 1);
+    }
+}
+
+/// A lock that cannot be removed does no harm and is not told; the next run removes it.
+#[test]
+fn a_fault_of_the_disk_is_told_and_leaves_the_old_file_or_says_that_it_is_replaced() {
+    let runs = stopped("write_fault", "fail");
+    for (run, new) in &runs {
+        let told = run.err.contains("a.ba is replaced");
+        match run.status {
+            0 => assert!(
+                *new && run.err.is_empty() && run.out == "written: 20 bytes\n",
+                "{run:?}"
+            ),
+            3 => assert!(!new && !told && run.out.is_empty(), "{run:?}"),
+            _ => assert!(*new && told && run.status == 4, "{run:?}"),
+        }
+    }
+    let (full, unsynced) = ("No space left on device", "Input/output error");
+    for (text, fault) in [
+        ("a.ba.unfinished", full),
+        ("a.ba.unfinished", unsynced),
+        ("is replaced, but may be as before after a power cut: ", unsynced),
+        ("is replaced (written: 20 bytes), but cannot write the answer: ", full),
+    ] {
+        let told = |run: &Run| run.err.contains(text) && run.err.contains(fault);
+        assert!(runs.iter().any(|(run, _)| told(run)), "{text}: {fault}: {runs:?}");
+    }
+}
+
+#[test]
+fn of_many_writes_at_once_each_leaves_a_whole_file() {
+    let folder = with_mixed("write_many");
+    let whole = ["f.ba", "g.ba", "j.ba"].map(|name| folder.read(name));
+    folder.write("out.ba", &whole[0]);
+    for _ in 0..20 {
+        let files = ["f.ba", "g.ba", "mixed.ba", "f.ba", "g.ba", "mixed.ba"];
+        let runs = files.map(|file| folder.start(&["write", file, "out.ba"]));
+        for run in runs {
+            assert!(whole.contains(&folder.read("out.ba")));
+            let run = Run::of(run.wait_with_output().expect("a run"));
+            assert!(run.status == 0 && run.out.starts_with("written: "), "{run:?}");
+        }
+        assert!(whole.contains(&folder.read("out.ba")));
+        assert_eq!(folder.names("out"), ["out.ba"]);
+    }
+}
+
+#[test]
+fn someones_own_file_where_the_lock_would_be_stays() {
+    let folder = with_mixed("write_lock");
+    folder.write("out.lock", b"not empty");
+    let run = folder.run(&["write", "mixed.ba", "out"]);
+    assert_eq!(run.out, "written: 20 bytes\n", "{run:?}");
+    assert_eq!(folder.read("out.lock"), b"not empty");
+}
+
+#[test]
+fn show_says_whether_a_file_is_in_the_fixed_form() {
+    let folder = with_mixed("write_show");
+    for (name, line) in [("mixed.ba", "fixed form: no"), ("j.ba", "fixed form: yes")] {
+        let shown = folder.run(&["show", name]);
+        assert_eq!(shown.out.lines().nth(4), Some(line), "{shown:?}");
+    }
+    folder.answers("open s mixed.ba", 0, "opened: edition 0, 2 states");
+    let shown = folder.run(&["show", "s"]);
+    assert!(shown.status == 0 && !shown.out.contains("fixed form"), "{shown:?}");
+}
