@@ -1,4 +1,4 @@
--- Laws of checks in order, the table of contain, and demands 1 and 2.
+-- The table of contain, and demands 1 and 2.
 pub mod FileRows
 pub mod WalkRows
 pub mod ContainTable

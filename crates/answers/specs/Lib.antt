@@ -1,4 +1,4 @@
--- Contain (01, "Contain"): checks, answers, table, demands 1 and 2.
+-- Contain (01, "Contain"): answers, table, demands 1 and 2.
 pub mod Contain
 pub mod Table
 pub mod Demand2

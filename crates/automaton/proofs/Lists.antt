@@ -6,6 +6,7 @@ use mathlib.Core.Logic.{⊎-elim}
 use mathlib.Core.List.{List, [], _∷_, _++_, List·Memᴰ, List·Memᴰ·not-nil, List·Memᴰ·cases-cons, Memᴰ·append-left, Memᴰ·append-right, List·Memᴰ·append-cases}
 use Prim.Native.Nat.{ℕ, zero, suc, _+_, _-_, _≤_, _<_}
 use native.Mathlib.Nat.{add-zero, zero-add, add-suc, suc-add}
+use native.Mathlib.Numerals.{add-one}
 use native.Mathlib.Omega.{arith}
 use lib.Dec.{T}
 use Rattle.automaton.specs.Ranges.{nextFrom, those, chained}
@@ -35,21 +36,12 @@ module _ (f : ℕ → Bool) where
   -- .. of these t is the first, and the rest are those from t + 1 on, ..
   pub those-here : (m t : ℕ) → t < m → f t ≡ true → those f (m - t) t ≡ t ∷ those f (m - (t + 1)) (t + 1)
   unfolding those
-  those-here m t h e = go (m - t) (m - (t + 1)) (t + 1) (omega arith) (omega arith)
-    where
-      go : (n l u : ℕ) → n ≡ suc l → u ≡ suc t → those f n t ≡ t ∷ those f l u
-      go n l u q r =
-          ap (λ (x : ℕ). those f x t) q
-          ∙ ap (λ (b : Bool). elim b [ true ↦ t ∷ those f l (suc t) | false ↦ those f l (suc t) ]) e
-          ∙ ap (λ (x : ℕ). t ∷ those f l x) (sym r)
+  those-here m t h e = let q : m - t ≡ suc (m - (t + 1)) = omega arith in rw (q, those, e, add-one)
 
   -- .. and from m on there are none.
   pub those-end : (m t : ℕ) → m ≤ t → those f (m - t) t ≡ []
   unfolding those
-  those-end m t h = go (m - t) (omega arith)
-    where
-      go : (n : ℕ) → n ≡ 0 → those f n t ≡ []
-      go n q = ap (λ (x : ℕ). those f x t) q
+  those-end m t h = let q : m - t ≡ 0 = omega arith in rw q
 
 -- a member of those from i on is among the n numbers from i on
 pub those-from : (f : ℕ → Bool) (n i k : ℕ) → List·Memᴰ k (those f n i) → (i ≤ k) × (k < i + n)
@@ -77,17 +69,11 @@ module _ {X : Type 0} (f : ℕ → List X) where
 
   pub chained-past : (m i : ℕ) → i < m → chained f (m - i) i ≡ f i ++ chained f (m - (i + 1)) (i + 1)
   unfolding chained
-  chained-past m i h = go (m - i) (m - (i + 1)) (i + 1) (omega arith) (omega arith)
-    where
-      go : (n l j : ℕ) → n ≡ suc l → j ≡ suc i → chained f n i ≡ f i ++ chained f l j
-      go n l j p q = ap (λ (y : ℕ). chained f y i) p ∙ ap (λ (y : ℕ). f i ++ chained f l y) (sym q)
+  chained-past m i h = let q : m - i ≡ suc (m - (i + 1)) = omega arith in rw (q, add-one)
 
   pub chained-end : (m i : ℕ) → m ≤ i → chained f (m - i) i ≡ []
   unfolding chained
-  chained-end m i h = go (m - i) (omega arith)
-    where
-      go : (n : ℕ) → n ≡ 0 → chained f n i ≡ []
-      go n q = ap (λ (y : ℕ). chained f y i) q
+  chained-end m i h = let q : m - i ≡ 0 = omega arith in rw q
 
   -- members
   pub chained-from : (n i : ℕ) (x : X) → List·Memᴰ x (chained f n i) → (k : ℕ) × (i ≤ k) × (k < i + n) × List·Memᴰ x (f k)

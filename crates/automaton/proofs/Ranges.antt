@@ -38,13 +38,6 @@ unfolding table
 length-table f zero i = refl
 length-table f (suc n) i = ap suc (length-table f n (suc i))
 
-pub table-has : {A : Type 0} (f : ℕ → A) (n i k : ℕ) → k < n → List·Memᴰ (f (i + k)) (table f n i)
-unfolding table
-table-has f zero i k h = absurd (not-suc-le-zero h)
-table-has f (suc n) i zero h = List·Memᴰ·head (ap f (add-zero i))
-table-has f (suc n) i (suc k) h =
-    List·Memᴰ·tail (subst (λ (m : ℕ). List·Memᴰ (f m) (table f n (suc i))) (suc-add i k ∙ sym (add-suc i k)) (table-has f n (suc i) k (le-of-suc-le-suc h)))
-
 -- Tests.
 
 pub some-find : (f : ℕ → Bool) (n i : ℕ) → T (some f n i) → (k : ℕ) × (k < i + n) × T (f k)

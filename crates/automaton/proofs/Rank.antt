@@ -48,14 +48,14 @@ rankOf-mono : (n i j : ℕ) → 1 ≤ n → i < j → rankOf n i < rankOf n j
 rankOf-mono zero i j p h = absurd (omega arith)
 rankOf-mono (suc n) i j p h = omega arith
 
-total-le : (f : ℕ → ℕ) (m n i : ℕ) → ((k : ℕ) → f k ≤ m) → total f n i ≤ n * m
+pub total-le : (f : ℕ → ℕ) (m n i : ℕ) → ((k : ℕ) → f k ≤ m) → total f n i ≤ n * m
 unfolding total
 total-le f m zero i h = omega arith
 total-le f m (suc n) i h =
     let e : suc n * m ≡ m + n * m = omega arith in
     omega (arith, h i, total-le f m n (suc i) h)
 
-one-le : (x : Bool) → one x ≤ 1
+pub one-le : (x : Bool) → one x ≤ 1
 one-le true = omega arith
 one-le false = omega arith
 

@@ -2,12 +2,12 @@
 ghost use mathlib.Core.List.{[], _∷_};
 ghost use Prim.Native.Nat.{_+_, _<_, _≤_};
 ghost use lib.ListN.{length};
-ghost use Rattle.buffers.specs.Buffers.{Written};
+ghost use Rattle.buffers.specs.Buffers.{WrittenAt};
 
 // Writes a byte into the buffer at a place, and answers the place behind it.
 pub fn put_byte(out: &mut [u8], at: usize, byte: u8) -> usize
     requires { ⌜ at < length (now out) ⌝ }
-    ensures { λ r. ⌜ Written (now (out .entry)) at (byte ∷ []) (now (out .exit)) r ⌝ }
+    ensures { λ r. ⌜ WrittenAt (now (out .entry)) at (byte ∷ []) (now (out .exit)) r ⌝ }
 {
     out[at] = byte;
     at + 1
@@ -16,7 +16,7 @@ pub fn put_byte(out: &mut [u8], at: usize, byte: u8) -> usize
 // Writes a text into the buffer from a place on, and answers the place behind it.
 pub fn put_text(out: &mut [u8], at: usize, text: &[u8]) -> usize
     requires { ⌜ at + length (now text) ≤ length (now out) ⌝ }
-    ensures { λ r. ⌜ Written (now (out .entry)) at (now (text .entry)) (now (out .exit)) r ⌝ }
+    ensures { λ r. ⌜ WrittenAt (now (out .entry)) at (now (text .entry)) (now (out .exit)) r ⌝ }
 {
     let mut i: usize = 0;
     while i < text.len() {

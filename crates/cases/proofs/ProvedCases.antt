@@ -1,8 +1,8 @@
--- The cases marked P hold: one computed test over the whole table, and the law that turns the test into
+-- The cases of the table hold: one computed test over the whole table, and the law that turns the test into
 -- what is said of each case. Assumes nothing.
 use mathlib.Core.Path.{_≡_, refl, subst, sym}
 use mathlib.Core.Bool.{Bool, true, false, _&&_, Bool·beq}
-use mathlib.Core.List.{List, [], _∷_, List·Memᴰ, List·Memᴰ·not-nil, List·Memᴰ·cases-cons, flatMap}
+use mathlib.Core.List.{List, [], _∷_, List·Memᴰ, List·Memᴰ·not-nil, List·Memᴰ·cases-cons}
 use mathlib.Core.Logic.{⊎-elim}
 use Prim.Native.Nat.{ℕ}
 use lib.Dec.{T, eqb, eqb→eq}
@@ -14,6 +14,9 @@ use Rattle.format.specs.Records as records
 use Rattle.format.specs.Writing as writing
 use Rattle.format.specs.File as file
 use Rattle.format.specs.File.{Read, refused, holds, readFile}
+use Rattle.fixed_form.specs.FixedForm as form
+use Rattle.fixed_form.specs.Write as writes
+use Rattle.fixed_form.specs.Write.{writeOf}
 use Rattle.deadstates.specs.DeadEnds as ends
 use Rattle.slots.specs.Slots as slots
 use Rattle.slots.specs.Slots.{sameList}
@@ -22,10 +25,10 @@ use Rattle.graph.specs.LagGraph as graph
 use Rattle.graph.specs.Walks as walks
 use Rattle.answers.specs.Contain as contain
 use Rattle.answers.specs.Contain.{outcomeOf, wordPart}
-use Rattle.boundary.specs.Numbers.{outcomeNumber}
+use Rattle.boundary.specs.Numbers.{outcomeNumber, writeNumber}
 use Rattle.lassos.specs.Verdict as lasso
 use Rattle.lassos.specs.Verdict.{accepted}
-use Rattle.cases.specs.Cases.{Case, call, verdict, Judged, buffer, Right, cases}
+use Rattle.cases.specs.Cases.{Case, call, verdict, write, Judged, buffer, Right, cases}
 
 -- what a file's automaton comes to, as a test; a file that is refused fails it
 judged : Read → List ℕ → List ℕ → Bool → Bool
@@ -38,6 +41,7 @@ test (call f g b work word n part) =
     eqb (outcomeNumber (outcomeOf f g b (buffer work) (buffer word))) n
     && sameList (wordPart f g b (buffer work) (buffer word)) part
 test (verdict f u v answer) = judged (readFile f) u v answer
+test (write f out n left) = eqb (writeNumber (writeOf f out .answer)) n && sameList (writeOf f out .out) left
 
 beq-eq : (a b : Bool) → T (Bool·beq a b) → a ≡ b
 beq-eq true true t = refl
@@ -59,6 +63,9 @@ test-right (call f g b work word n part) t =
     let h = and-both (eqb (outcomeNumber (outcomeOf f g b (buffer work) (buffer word))) n) (sameList (wordPart f g b (buffer work) (buffer word)) part) t in
     (eqb→eq _ _ (h .0), same-list-eq _ _ (h .1))
 test-right (verdict f u v answer) t = judged-right f u v answer t
+test-right (write f out n left) t =
+    let h = and-both (eqb (writeNumber (writeOf f out .answer)) n) (sameList (writeOf f out .out) left) t in
+    (eqb→eq _ _ (h .0), same-list-eq _ _ (h .1))
 
 every : List Case → Bool
 every [] = true
@@ -72,7 +79,7 @@ each (d ∷ cs) t c m =
     ⊎-elim (λ e. subst (λ (x : Case). T (test x)) (sym e) (h .0)) (λ k. each cs (h .1) c k) (List·Memᴰ·cases-cons m)
 
 computed : T (every cases)
-unfolding every test judged flatMap ranges.some ranges.those ranges.table ranges.largest automata.accepts automata.transition automata.targets automata.bare automata.withAccepting automata.withTransition automata.headerValues paths.relation paths.through paths.rounds paths.closure writing.itemsBytes records.recordIn file.header file.takes file.records file.readFile ends.edge ends.paths ends.live ends.dead ends.deadStates ends.hasDead slots.sameList slots.sameVertex slots.allZero graph.initialCounter graph.initialVertex graph.counter graph.stepped graph.successor graph.successors walks.walkOf walks.wordOf contain.comparing contain.deciding contain.containing contain.wordPart lasso.only lasso.onLetter lasso.onWord lasso.loopRuns lasso.loopVisits lasso.accepted
+unfolding every test judged ranges.some ranges.those ranges.chained ranges.table ranges.largest automata.accepts automata.transition automata.targets automata.bare automata.withAccepting automata.withTransition automata.headerValues paths.relation paths.through paths.rounds paths.closure writing.itemsBytes records.recordIn file.header file.takes file.records file.readFile ends.edge ends.paths ends.live ends.dead ends.deadStates ends.hasDead slots.sameList slots.sameVertex slots.allZero graph.initialCounter graph.initialVertex graph.counter graph.stepped graph.successor graph.successors walks.walkOf walks.wordOf contain.comparing contain.deciding contain.containing contain.wordPart lasso.only lasso.onLetter lasso.onWord lasso.loopRuns lasso.loopVisits lasso.accepted form.acceptingItems form.transitionItems form.written writes.writing writes.writeOf
 computed = tt
 
 pub proved-cases : (c : Case) → List·Memᴰ c cases → Right c

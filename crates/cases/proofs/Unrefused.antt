@@ -36,7 +36,7 @@ use Rattle.cases.specs.Worked.{F, G}
 use Rattle.cases.specs.Cases.{buffer, openedF}
 
 opened-filled : openedF .filled ≡ true
-unfolding flatMap ranges.some ranges.those ranges.table ranges.largest automata.accepts automata.transition automata.targets automata.bare automata.withAccepting automata.withTransition automata.headerValues paths.relation paths.through paths.rounds paths.closure writing.itemsBytes records.recordIn file.header file.takes file.records file.readFile ends.edge ends.paths ends.live ends.dead ends.deadStates ends.hasDead entries.freshEntry entries.malformed opens.openChecks opens.openOf
+unfolding ranges.some ranges.those ranges.table ranges.largest automata.accepts automata.transition automata.targets automata.bare automata.withAccepting automata.withTransition automata.headerValues paths.relation paths.through paths.rounds paths.closure writing.itemsBytes records.recordIn file.header file.takes file.records file.readFile ends.edge ends.paths ends.live ends.dead ends.deadStates ends.hasDead entries.freshEntry entries.malformed opens.openChecks opens.openOf
 opened-filled = refl
 
 opened-well-formed : openedF .filled ≡ true → WellFormed openedF
@@ -56,7 +56,7 @@ module _ (E : Entry) (f : List ℕ) (b : ℕ) (work word : List ℕ) where
   passes-nine e = rw e refl
 
 computed : afterNine openedF G 1 (buffer 400) (buffer 4) .answer ≡ Taken 5 8
-unfolding flatMap ranges.some ranges.those ranges.table ranges.largest automata.accepts automata.transition automata.targets automata.bare automata.withAccepting automata.withTransition automata.headerValues paths.relation paths.through paths.rounds paths.closure writing.itemsBytes records.recordIn file.header file.takes file.records file.readFile ends.edge ends.paths ends.live ends.dead ends.deadStates ends.hasDead slots.sameList slots.sameVertex slots.allZero graph.initialCounter graph.initialVertex graph.counter graph.stepped graph.successor graph.successors walks.walkOf walks.slotsOf walks.workAfter walks.wordOf slots.slotBytes contain.comparing entries.freshEntry entries.malformed entries.smaller opens.openChecks opens.openOf
+unfolding flatMap ranges.some ranges.those ranges.chained ranges.table ranges.largest automata.accepts automata.transition automata.targets automata.bare automata.withAccepting automata.withTransition automata.headerValues paths.relation paths.through paths.rounds paths.closure writing.itemsBytes records.recordIn file.header file.takes file.records file.readFile ends.edge ends.paths ends.live ends.dead ends.deadStates ends.hasDead slots.sameList slots.sameVertex slots.allZero graph.initialCounter graph.initialVertex graph.counter graph.stepped graph.successor graph.successors walks.walkOf walks.slotsOf walks.workAfter walks.wordOf slots.slotBytes contain.comparing entries.freshEntry entries.malformed entries.smaller opens.openChecks opens.openOf
 computed = refl
 
 pub offer-taken : offerOf openedF G 1 (buffer 400) (buffer 4) .answer ≡ Taken 5 8

@@ -1,29 +1,34 @@
--- The cases marked P, as one table (01, "Worked automata").
+-- The cases marked P (01, "Worked automata") and files that are written (02, S-1), as one table.
 --   Case       a call of contain: two files, the bound, the bytes of work, the bytes of word; then the outcome's number and the
---              letters that come back. Or a verdict: a file, a stem and a loop; then yes or no
+--              letters that come back. Or a verdict: a file, a stem and a loop; then yes or no. Or a file to be written, and the output
+--              buffer; then the number and the buffer afterwards
 --   Judged     a file that holds an automaton, and the verdict on it
 --   Right c    the case comes to what its row says
+--   nines n    n bytes of 9, which no file here has
 --   cases      the table
 --   openedF    the entry that opening F makes of a fresh one
 -- Shown by `proved-cases`; `offer-unrefused` offers G to the entry that F opens. Assumes nothing.
 use mathlib.Core.Path.{_≡_}
 use mathlib.Core.Bool.{Bool, true, false}
-use mathlib.Core.List.{List, [], _∷_}
+use mathlib.Core.List.{List, [], _∷_, _++_}
 use Prim.Native.Nat.{ℕ, _+_, _*_}
 use lib.ListN.{replicate}
 use Rattle.automaton.specs.declared.Automaton.{Automaton}
+use Rattle.format.specs.Writing.{fileBytes}
 use Rattle.format.specs.File.{holds, readFile}
+use Rattle.fixed_form.specs.Write.{writeOf}
 use Rattle.answers.specs.Contain.{outcomeOf, wordPart}
 use Rattle.history.specs.declared.Entry.{Entry}
 use Rattle.history.specs.Entries.{freshEntry}
 use Rattle.history.specs.Opens.{openOf}
-use Rattle.boundary.specs.Numbers.{outcomeNumber}
+use Rattle.boundary.specs.Numbers.{outcomeNumber, writeNumber}
 use Rattle.lassos.specs.Verdict.{accepted}
-use Rattle.cases.specs.Worked.{F, G, H, J}
+use Rattle.cases.specs.Worked.{F, backwardsF, G, H, J}
 
 pub data Case : Type 0 where
   call : List ℕ → List ℕ → ℕ → ℕ → ℕ → ℕ → List ℕ → Case
   verdict : List ℕ → List ℕ → List ℕ → Bool → Case
+  write : List ℕ → List ℕ → ℕ → List ℕ → Case
 
 -- the file holds an automaton, and the verdict on it is the answer
 pub record Judged (f u v : List ℕ) (answer : Bool) : Type 0 where
@@ -34,6 +39,9 @@ pub record Judged (f u v : List ℕ) (answer : Bool) : Type 0 where
 abbrev pub buffer : ℕ → List ℕ
 buffer n = replicate n 0
 
+abbrev pub nines : ℕ → List ℕ
+nines n = replicate n 9
+
 abbrev pub openedF : Entry
 openedF = openOf freshEntry F .entry
 
@@ -41,6 +49,7 @@ abbrev pub Right : Case → Type 0
 Right (call f g b work word n part) =
     (outcomeNumber (outcomeOf f g b (buffer work) (buffer word)) ≡ n) × (wordPart f g b (buffer work) (buffer word) ≡ part)
 Right (verdict f u v answer) = Judged f u v answer
+Right (write f out n left) = (writeNumber (writeOf f out .answer) ≡ n) × (writeOf f out .out ≡ left)
 
 abbrev pub cases : List Case
 cases =
@@ -54,4 +63,11 @@ cases =
     verdict F [] (0 ∷ 1 ∷ []) true ∷  -- K8
     verdict F [] (0 ∷ []) false ∷  -- K9
     verdict F (1 ∷ []) (0 ∷ []) true ∷  -- K10
+    write H (nines 17) (256 * 15) (H ++ nines 2) ∷  -- two bytes to spare
+    write H (nines 14) (116 + 256 * 15) (nines 14) ∷  -- the example of refusal 16
+    write F (nines 50) (256 * 50) F ∷
+    write backwardsF (nines 50) (256 * 50) F ∷  -- another order
+    write G (nines 53) (256 * 53) G ∷
+    write (fileBytes 1 1 0 []) (nines 7) (256 * 7) (fileBytes 1 1 0 []) ∷  -- a dead state, and no record
+    write [] (nines 7) 101 (nines 7) ∷  -- the example of refusal 1
     []

@@ -1,6 +1,6 @@
 -- The worked automata F, G, H and J as files (01, "Worked automata"), written record by record: number of states, number of letters, initial state,
--- then the accepting states and the transitions (from, letter, to); and F with its records last to first. Shown by `proved-cases`, to the table in
--- `Cases`, and by `written-f`. Assumes nothing.
+-- then the accepting states and the transitions (from, letter, to); and F with its records last to first. Shown by `proved-cases`, with the table in
+-- `Cases`. Assumes nothing.
 use mathlib.Core.List.{List, [], _∷_}
 use Prim.Native.Nat.{ℕ}
 use Rattle.format.specs.Writing.{accepting-item, transition-item, fileBytes}

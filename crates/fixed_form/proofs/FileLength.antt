@@ -10,11 +10,11 @@ use Rattle.format.specs.Writing.{Item, itemBytes, itemsBytes, endBytes}
 use Rattle.format.specs.File.{readFile, holds}
 use Rattle.format.specs.Spelling.{Distinct}
 use Rattle.format.proofs.FileLaws.{file-in-range}
-use Rattle.format.proofs.FileBytes.{file-held-iff, spells-has-iff}
+use Rattle.format.proofs.FileBytes.{file-held-iff}
 use Rattle.fixed_form.specs.FixedForm.{itemsOf, written}
 use Rattle.fixed_form.specs.WriteDemand.{shortestFile, longestFile}
 use Rattle.fixed_form.proofs.Ascending.{ascending-distinct}
-use Rattle.fixed_form.proofs.Items.{items-iff, written-ascends}
+use Rattle.fixed_form.proofs.Items.{written-ascends, spelled-items-iff}
 use Rattle.fixed_form.proofs.Lengths.{written-bounds}
 
 -- a list without a record that it has
@@ -58,19 +58,19 @@ without x [] m = absurd (List·Memᴰ·not-nil m)
 without x (y ∷ ys) m = ⊎-elim (first-out x y ys) (λ l. later-out x y ys l (without x ys l)) (List·Memᴰ·cases-cons m)
 
 -- lists without repeats that have the same records have equally many bytes
-same-bytes : (xs ys : List Item) → Distinct xs → Distinct ys → ((z : Item) → List·Memᴰ z xs ↔ List·Memᴰ z ys)
+items-same-length : (xs ys : List Item) → Distinct xs → Distinct ys → ((z : Item) → List·Memᴰ z xs ↔ List·Memᴰ z ys)
     → length (itemsBytes xs) ≡ length (itemsBytes ys)
 unfolding itemsBytes Distinct
-same-bytes [] [] d e m = refl
-same-bytes [] (y ∷ ys) d e m = absurd (List·Memᴰ·not-nil (m y .1 (List·Memᴰ·head refl)))
-same-bytes (x ∷ xs) ys d e m =
+items-same-length [] [] d e m = refl
+items-same-length [] (y ∷ ys) d e m = absurd (List·Memᴰ·not-nil (m y .1 (List·Memᴰ·head refl)))
+items-same-length (x ∷ xs) ys d e m =
     let w = without x ys (m x .0 (List·Memᴰ·head refl)) in
     let over : (z : Item) → List·Memᴰ z xs → List·Memᴰ z (w .others) =
     λ z l. ⊎-elim (λ q. absurd (d .0 (subst (λ (u : Item). List·Memᴰ u xs) q l))) (λ k. k) (w .members z .0 (m z .0 (List·Memᴰ·tail l))) in
     let back : (z : Item) → List·Memᴰ z (w .others) → List·Memᴰ z xs =
     λ z l. ⊎-elim (λ q. absurd (w .distinct e .0 (subst (λ (u : Item). List·Memᴰ u (w .others)) q l))) (λ k. k)
     (List·Memᴰ·cases-cons (m z .1 (w .members z .1 (inr l)))) in
-    let rest = same-bytes xs (w .others) (d .1) (w .distinct e .1) (λ z. (over z, back z)) in
+    let rest = items-same-length xs (w .others) (d .1) (w .distinct e .1) (λ z. (over z, back z)) in
     omega (arith, length-append (itemBytes x) (itemsBytes xs), w .bytes, rest)
 
 module _ (s : List ℕ) (A : Automaton) (e : readFile s ≡ holds A) where
@@ -78,8 +78,8 @@ module _ (s : List ℕ) (A : Automaton) (e : readFile s ≡ holds A) where
   unfolding written
   file-length =
       let S = file-held-iff s A .0 e in
-      let d = same-bytes (S .items) (itemsOf A) (S .distinct) (ascending-distinct (itemsOf A) (written-ascends A))
-      (λ x. (λ m. items-iff A x .0 (spells-has-iff s A S x .1 m), λ m. spells-has-iff s A S x .0 (items-iff A x .1 m))) in
+      let d =
+      items-same-length (S .items) (itemsOf A) (S .distinct) (ascending-distinct (itemsOf A) (written-ascends A)) (spelled-items-iff A s S) in
       omega (arith, ap length (S .bytes), length-append (itemsBytes (S .items)) endBytes, length-append (itemsBytes (itemsOf A)) endBytes, d)
 
   -- so it has 7 to 82,023 bytes

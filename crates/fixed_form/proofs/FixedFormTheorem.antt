@@ -9,23 +9,20 @@ use Rattle.automaton.specs.declared.Automaton.{Automaton}
 use Rattle.automaton.specs.Ranges.{those, chained}
 use Rattle.automaton.specs.Sets.{Bytes}
 use Rattle.automaton.specs.Automata.{accepts, transition, targets, bare, headerValues, InRange}
-use Rattle.automaton.proofs.Booleans.{same-test}
 use Rattle.automaton.proofs.Members.{those-same}
 use Rattle.automaton.proofs.Lists.{chained-same}
 use Rattle.automaton.proofs.InRange.{header-values-iff}
 use Rattle.automaton.proofs.Bits.{bare-header}
-use Rattle.automaton.proofs.EqualAutomata.{equal-automata}
 use Rattle.format.specs.Writing.{Item, accepting-item, transition-item, fileBytes}
 use Rattle.format.specs.File.{readFile, holds}
 use Rattle.format.specs.Spelling.{withItems, Spells}
-use Rattle.format.proofs.RecordSteps.{Has}
 use Rattle.format.proofs.FileLaws.{file-in-range, read-same}
 use Rattle.format.proofs.Items.{with-items-header, within-same}
 use Rattle.format.proofs.FileBytes.{file-held-iff, spells-has-iff}
-use Rattle.format.proofs.AnyOrder.{file-bytes}
+use Rattle.format.proofs.AnyOrder.{file-bytes, equal-by-items}
 use Rattle.fixed_form.specs.FixedForm.{FixedForm, acceptingItems, transitionItems, itemsOf, written, SameAutomaton}
 use Rattle.fixed_form.proofs.Ascending.{ascending-distinct, ascending-same}
-use Rattle.fixed_form.proofs.Items.{items-iff, items-within, written-ascends}
+use Rattle.fixed_form.proofs.Items.{items-iff, items-within, written-ascends, spelled-items-iff}
 
 -- Reading the written file.
 
@@ -34,15 +31,20 @@ module _ (A : Automaton) where
   abbrev spelled : Automaton
   spelled = withItems (bare (A .states) (A .letters) (A .initial)) (itemsOf A)
 
+  -- has the same header
+  spelled-header : (A .states ≡ spelled .states) × (A .letters ≡ spelled .letters) × (A .initial ≡ spelled .initial)
+  spelled-header =
+      let g = bare-header (A .states) (A .letters) (A .initial) in
+      let h = with-items-header (bare (A .states) (A .letters) (A .initial)) (itemsOf A) in
+      (sym (h .0 ∙ g .0), sym (h .1 ∙ g .1), sym (h .2 ∙ g .2))
+
   module _ (inA : InRange A) where
     spells : Spells (written A) spelled
     unfolding written
     spells =
-        let g = bare-header (A .states) (A .letters) (A .initial) in
-        let h = with-items-header (bare (A .states) (A .letters) (A .initial)) (itemsOf A) in
-        let n : A .states ≡ spelled .states = sym (h .0 ∙ g .0) in
-        let k : A .letters ≡ spelled .letters = sym (h .1 ∙ g .1) in
-        let i : A .initial ≡ spelled .initial = sym (h .2 ∙ g .2) in
+        let n = spelled-header .0 in
+        let k = spelled-header .1 in
+        let i = spelled-header .2 in
         let values =
         header-values-iff (A .states) (A .letters) (A .initial) .1
         (inA .some-states, inA .few-states, inA .some-letters, inA .few-letters, inA .initial-below) in
@@ -63,18 +65,12 @@ module _ (A : Automaton) where
     unfolding spells written
     spelled-same acc tra =
         let e = file-held-iff (written A) spelled .1 spells in
-        let g = bare-header (A .states) (A .letters) (A .initial) in
-        let h = with-items-header (bare (A .states) (A .letters) (A .initial)) (itemsOf A) in
-        equal-automata A spelled inA (file-in-range (written A) spelled e) (acc, tra) (file-bytes (written A) spelled e)
-        (sym (h .0 ∙ g .0)) (sym (h .1 ∙ g .1)) (sym (h .2 ∙ g .2))
-        (λ q. same-test (accepts A q) (accepts spelled q) (over (accepting-item q)) (back (accepting-item q)))
-        (λ q a r. same-test (transition A q a r) (transition spelled q a r) (over (transition-item q a r)) (back (transition-item q a r)))
-      where
-        over : (x : Item) → Has A x → Has spelled x
-        over x t = spells-has-iff (written A) spelled spells x .1 (items-iff A x .0 t)
-
-        back : (x : Item) → Has spelled x → Has A x
-        back x t = items-iff A x .1 (spells-has-iff (written A) spelled spells x .0 t)
+        equal-by-items A spelled inA (file-in-range (written A) spelled e) (acc, tra) (file-bytes (written A) spelled e)
+        (spelled-header .0) (spelled-header .1) (spelled-header .2)
+        (λ x. (
+          λ t. spells-has-iff (written A) spelled spells x .1 (items-iff A x .0 t),
+          λ t. items-iff A x .1 (spells-has-iff (written A) spelled spells x .0 t),
+        ))
 
     written-fixed : Bytes 4 (A .accepting) → Bytes 2048 (A .transitions) → FixedForm (written A) A
     unfolding spells written
@@ -91,8 +87,7 @@ module _ (A : Automaton) where
   fixed-written s f =
       let S = f .spells in
       let e : S .items ≡ itemsOf A =
-      ascending-same (S .items) (itemsOf A) (f .ascending) (written-ascends A)
-      (λ x. (λ m. items-iff A x .0 (spells-has-iff s A S x .1 m), λ m. spells-has-iff s A S x .0 (items-iff A x .1 m))) in
+      ascending-same (S .items) (itemsOf A) (f .ascending) (written-ascends A) (spelled-items-iff A s S) in
       S .bytes ∙ ap (fileBytes (A .states) (A .letters) (A .initial)) e
 
   -- the fixed form of an automaton in range is one file

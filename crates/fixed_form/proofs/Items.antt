@@ -1,4 +1,4 @@
--- The records of an automaton: they are what it has, within its header, and they ascend. Assumes nothing.
+-- The records of an automaton: they are what it has and what each of its files has, within its header, and they ascend. Assumes nothing.
 use mathlib.Core.Path.{_≡_, refl, sym, subst}
 use mathlib.Core.Logic.{inl, inr, ⊎-elim, _↔_}
 use mathlib.Core.List.{List, map, List·Memᴰ, Memᴰ·append-left, Memᴰ·append-right, List·Memᴰ·append-cases, Memᴰ·map, Memᴰ·of-map}
@@ -11,8 +11,9 @@ use Rattle.automaton.proofs.Ranges.{those-pass}
 use Rattle.automaton.proofs.Lists.{those-at, chained-from, chained-at}
 use Rattle.automaton.proofs.Transitions.{transition-parts, accepts-below}
 use Rattle.format.specs.Writing.{Item, accepting-item, transition-item}
-use Rattle.format.specs.Spelling.{Within}
+use Rattle.format.specs.Spelling.{Within, Spells}
 use Rattle.format.proofs.RecordSteps.{Has}
+use Rattle.format.proofs.FileBytes.{spells-has-iff}
 use Rattle.fixed_form.specs.FixedForm.{Before, Ascending, acceptingItems, transitionItems, itemsOf}
 use Rattle.fixed_form.proofs.Ascending.{ascending-append, ascending-those, ascending-chained}
 
@@ -94,6 +95,11 @@ module _ (A : Automaton) where
 
   pub items-iff : (x : Item) → Has A x ↔ List·Memᴰ x (itemsOf A)
   items-iff x = (items-have x, items-had x)
+
+  -- and so has each file that spells it
+  pub spelled-items-iff : (s : List ℕ) (S : Spells s A) (x : Item) → List·Memᴰ x (S .items) ↔ List·Memᴰ x (itemsOf A)
+  spelled-items-iff s S x =
+      (λ m. items-iff x .0 (spells-has-iff s A S x .1 m), λ m. spells-has-iff s A S x .0 (items-iff x .1 m))
 
   has-within : (x : Item) → Has A x → Within (A .states) (A .letters) x
   has-within (accepting-item q) t = accepts-below A q t

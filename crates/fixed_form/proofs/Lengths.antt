@@ -9,7 +9,7 @@ use lib.ListN.{length, length-append}
 use Rattle.automaton.specs.declared.Automaton.{Automaton}
 use Rattle.automaton.specs.Ranges.{those, chained, total}
 use Rattle.automaton.specs.Automata.{maxStates, maxLetters, accepts, transition, targets, one, transitionCount}
-use Rattle.automaton.proofs.Rank.{transition-count-le}
+use Rattle.automaton.proofs.Rank.{total-le, one-le, transition-count-le}
 use Rattle.format.specs.Writing.{Item, accepting-item, transition-item, itemBytes, itemsBytes, endBytes}
 use Rattle.fixed_form.specs.FixedForm.{acceptingItems, transitionItems, itemsOf, written, acceptingCount}
 use Rattle.fixed_form.specs.WriteDemand.{shortestFile, longestFile}
@@ -29,16 +29,6 @@ items-chained f (suc n) i =
     items-append (f i) (chained f n (suc i)) ∙ ap (λ (l : List ℕ). itemsBytes (f i) ++ l) (items-chained f n (suc i))
 
 -- Their lengths.
-
--- at most n of n numbers pass
-count-le : (f : ℕ → Bool) (n i : ℕ) → total (λ k. one (f k)) n i ≤ n
-unfolding total
-count-le f zero i = omega arith
-count-le f (suc n) i = go (f i) (count-le f n (suc i))
-  where
-    go : {k : ℕ} (b : Bool) → k ≤ n → one b + k ≤ suc n
-    go true h = omega arith
-    go false h = omega arith
 
 -- records of w bytes each, of the numbers that pass
 length-those : (g : ℕ → Item) (w : ℕ) → ((k : ℕ) → length (itemBytes (g k)) ≡ w) → (f : ℕ → Bool) (n i : ℕ)
@@ -92,4 +82,5 @@ module _ (A : Automaton) where
   unfolding acceptingCount
   written-bounds h l =
       let e = written-length in
-      (omega (arith, e), omega (arith, e, count-le (accepts A) (A .states) 0, transition-count-few h l))
+      let few = total-le (λ q. one (accepts A q)) 1 (A .states) 0 (λ q. one-le (accepts A q)) in
+      (omega (arith, e), omega (arith, e, few, transition-count-few h l))

@@ -19,7 +19,7 @@ use Rattle.fixed_form.specs.declared.WriteAnswer.the-variants.{Wrote, Re
 use Rattle.fixed_form.specs.FixedForm.{written}
 use Rattle.fixed_form.specs.Write.{Write, writing, writeOf}
 use Rattle.fixed_form.specs.WriteTable.{writeRows, writePlace}
-use Rattle.fixed_form.specs.WriteDemand.{WriteListed}
+use Rattle.fixed_form.specs.WriteDemand.{shortestFile, longestFile, WriteListed}
 use Rattle.fixed_form.proofs.Lengths.{written-bounds}
 
 module _ (f out : List ℕ) where
@@ -61,7 +61,7 @@ module _ (f out : List ℕ) where
 -- The numbers that can occur.
 
 module _ (f : List ℕ) where
-  bounds : (A : Automaton) → readFile f ≡ holds A → (7 ≤ length (written A)) × (length (written A) ≤ 82023)
+  bounds : (A : Automaton) → readFile f ≡ holds A → (shortestFile ≤ length (written A)) × (length (written A) ≤ longestFile)
   bounds A r = let i = file-in-range f A r in written-bounds A (i .few-states) (i .few-letters)
 
   pub write-occurs : (out : List ℕ) → WriteListed (length out) (writeOf f out .answer)

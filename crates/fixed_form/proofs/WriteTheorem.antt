@@ -13,10 +13,10 @@ use Rattle.checks.specs.Checks.{FileHolds}
 use Rattle.checks.proofs.ChecksLaws.{by-test, by-read}
 use Rattle.checks.proofs.FileRows.{file-of}
 use Rattle.fixed_form.specs.declared.WriteAnswer.the-variants.{Wrote}
-use Rattle.fixed_form.specs.FixedForm.{written, SameAutomaton}
+use Rattle.fixed_form.specs.FixedForm.{FixedForm, written, SameAutomaton}
 use Rattle.fixed_form.specs.Write.{Write, writing, writeOf}
 use Rattle.fixed_form.specs.WriteDemand.{AfterWrite, WriteDemand1, WriteAlike, WriteAgain}
-use Rattle.fixed_form.proofs.FixedFormTheorem.{file-written-read, file-written-alike}
+use Rattle.fixed_form.proofs.FixedFormTheorem.{file-written-read, file-fixed-form-iff, file-written-alike}
 use Rattle.fixed_form.proofs.FileLength.{file-length}
 use Rattle.fixed_form.proofs.WriteCases.{writing-room, writing-same, write-held}
 use Rattle.fixed_form.proofs.WriteTable.{write-table, write-occurs}
@@ -53,17 +53,22 @@ write-alike s t = record { alike = alike; only = only }
     alike : (A B : Automaton) → readFile s ≡ holds A → readFile t ≡ holds B → SameAutomaton A B → (out : List ℕ) → writeOf s out ≡ writeOf t out
     alike A B e d same out = write-held s out A e ∙ writing-same A B out (file-written-alike s t A B e d .0 same) ∙ sym (write-held t out B d)
 
-    only : (out : List ℕ) (len : ℕ) → writeOf s out .answer ≡ Wrote len → writeOf t out .answer ≡ Wrote len
-        → take len (writeOf s out .out) ≡ take len (writeOf t out .out) → FileHolds s (λ A. FileHolds t (λ B. SameAutomaton A B))
-    only out len e d w =
+    only : (out new : List ℕ) (len : ℕ) → writeOf s out .answer ≡ Wrote len → writeOf t new .answer ≡ Wrote len
+        → take len (writeOf s out .out) ≡ take len (writeOf t new .out) → FileHolds s (λ A. FileHolds t (λ B. SameAutomaton A B))
+    only out new len e d w =
         let p = write-front s out len e in
-        let q = write-front t out len d in
+        let q = write-front t new len d in
         file-of (p .read) (file-of (q .read)
         (file-written-alike s t (p .automaton) (q .automaton) (p .read) (q .read) .1 (sym (p .condition .1) ∙ w ∙ q .condition .1)))
 
 pub write-again : (f : List ℕ) → WriteAgain f
-write-again f = record { reads = reads; again = again }
+write-again f = record { fixed = fixed; reads = reads; again = again }
   where
+    fixed : (out : List ℕ) (len : ℕ) → writeOf f out .answer ≡ Wrote len → FileHolds f (λ A. FixedForm (take len (writeOf f out .out)) A)
+    fixed out len e =
+        let p = write-front f out len e in
+        file-of (p .read) (file-fixed-form-iff f (p .automaton) (p .read) _ .1 (p .condition .1))
+
     reads : (out : List ℕ) (len : ℕ) → writeOf f out .answer ≡ Wrote len → readFile (take len (writeOf f out .out)) ≡ readFile f
     reads out len e =
         let p = write-front f out len e in

@@ -5,7 +5,7 @@
 --   AfterWrite x out'           the buffer out' after the answer x
 --   WriteDemand1 f out          demand 1
 --   WriteAlike s t              files of the same automaton are written alike, and no others
---   WriteAgain f                a file that was written is written as itself
+--   WriteAgain f                what was written is the fixed form of the file's automaton, holds it, and is written as itself
 -- Shown by `write-demand-1`, `write-alike` and `write-again`; the two lengths by `shortest-met` and `longest-met`. Assumes nothing.
 use mathlib.Core.Path.{_≡_}
 use mathlib.Core.List.{List, _++_}
@@ -18,7 +18,7 @@ use Rattle.format.specs.Refusals.{ReadsAs}
 use Rattle.checks.specs.Checks.{First, FileHolds}
 use Rattle.fixed_form.specs.declared.WriteAnswer.{WriteAnswer}
 use Rattle.fixed_form.specs.declared.WriteAnswer.the-variants.{Wrote, Refused, NoRoom}
-use Rattle.fixed_form.specs.FixedForm.{written, SameAutomaton}
+use Rattle.fixed_form.specs.FixedForm.{FixedForm, written, SameAutomaton}
 use Rattle.fixed_form.specs.Write.{writeOf}
 use Rattle.fixed_form.specs.WriteTable.{writeRows}
 
@@ -50,13 +50,15 @@ module _ (f out : List ℕ) where
 pub record WriteAlike (s t : List ℕ) : Type 0 where
   -- files of the same automaton get the same answer and leave the same bytes in any buffer
   pub alike : (A B : Automaton) → readFile s ≡ holds A → readFile t ≡ holds B → SameAutomaton A B → (out : List ℕ) → writeOf s out ≡ writeOf t out
-  -- and only those: where both are written with the same length and the same bytes, they hold the same automaton
-  pub only : (out : List ℕ) (len : ℕ) → writeOf s out .answer ≡ Wrote len → writeOf t out .answer ≡ Wrote len
-      → take len (writeOf s out .out) ≡ take len (writeOf t out .out)
+  -- and only those: where both are written, each into a buffer of its own, with the same length and the same bytes, they hold the same automaton
+  pub only : (out new : List ℕ) (len : ℕ) → writeOf s out .answer ≡ Wrote len → writeOf t new .answer ≡ Wrote len
+      → take len (writeOf s out .out) ≡ take len (writeOf t new .out)
       → FileHolds s (λ A. FileHolds t (λ B. SameAutomaton A B))
 
 pub record WriteAgain (f : List ℕ) : Type 0 where
-  -- what was written holds the file's automaton
+  -- what was written spells the file's automaton, with ascending records
+  pub fixed : (out : List ℕ) (len : ℕ) → writeOf f out .answer ≡ Wrote len → FileHolds f (λ A. FixedForm (take len (writeOf f out .out)) A)
+  -- so it holds it
   pub reads : (out : List ℕ) (len : ℕ) → writeOf f out .answer ≡ Wrote len → readFile (take len (writeOf f out .out)) ≡ readFile f
   -- and is written as itself, into any buffer that has the room
   pub again : (out new : List ℕ) (len : ℕ) → writeOf f out .answer ≡ Wrote len → len ≤ length new

@@ -9,7 +9,7 @@ use lib.Bits.{or-lt}
 use lib.ListN.{getD, set, replicate}
 use Rattle.automaton.specs.declared.Automaton.{Automaton}
 use Rattle.automaton.specs.Sets.{withBit}
-use Rattle.automaton.specs.Automata.{accepts, transition, bare, withAccepting, withTransition}
+use Rattle.automaton.specs.Automata.{accepts, transition, bare, withAccepting, withTransition, InRange}
 use Rattle.automaton.proofs.Booleans.{same-test}
 use Rattle.automaton.specs.Sets.{Bytes}
 use Rattle.automaton.proofs.EqualAutomata.{equal-automata}
@@ -74,18 +74,23 @@ file-bytes s A e =
     let m = subst SmallSets (sym (S .all)) (small-items _ (S .items) (small-bare (A .states) (A .letters) (A .initial))) in
     (record { size = w .accepting-length; small = m .0 }, record { size = w .transitions-length; small = m .1 })
 
+-- automata in range whose sets are bytes are equal if they have the same header and the same records
+pub equal-by-items : (A B : Automaton) → InRange A → InRange B → Bytes 4 (A .accepting) × Bytes 2048 (A .transitions)
+    → Bytes 4 (B .accepting) × Bytes 2048 (B .transitions) → A .states ≡ B .states → A .letters ≡ B .letters → A .initial ≡ B .initial
+    → ((x : Item) → Has A x ↔ Has B x) → A ≡ B
+equal-by-items A B inA inB bA bB n k i h =
+    equal-automata A B inA inB bA bB n k i
+    (λ q. let e = h (accepting-item q) in same-test (accepts A q) (accepts B q) (e .0) (e .1))
+    (λ q a r. let e = h (transition-item q a r) in same-test (transition A q a r) (transition B q a r) (e .0) (e .1))
+
 pub any-order : (s t : List ℕ) (A B : Automaton) (S : Spells s A) (R : Spells t B)
     → A .states ≡ B .states → A .letters ≡ B .letters → A .initial ≡ B .initial
     → ((x : Item) → List·Memᴰ x (S .items) ↔ List·Memᴰ x (R .items)) → A ≡ B
 any-order s t A B S R n k i m =
     let eA = file-held-iff s A .1 S in
     let eB = file-held-iff t B .1 R in
-    equal-automata A B (file-in-range s A eA) (file-in-range t B eB) (file-bytes s A eA) (file-bytes t B eB) n k i
-    (λ q. same-test (accepts A q) (accepts B q) (over (accepting-item q)) (back (accepting-item q)))
-    (λ q a r. same-test (transition A q a r) (transition B q a r) (over (transition-item q a r)) (back (transition-item q a r)))
-  where
-    over : (x : Item) → Has A x → Has B x
-    over x h = spells-has-iff t B R x .1 (m x .0 (spells-has-iff s A S x .0 h))
-
-    back : (x : Item) → Has B x → Has A x
-    back x h = spells-has-iff s A S x .1 (m x .1 (spells-has-iff t B R x .0 h))
+    equal-by-items A B (file-in-range s A eA) (file-in-range t B eB) (file-bytes s A eA) (file-bytes t B eB) n k i
+    (λ x. (
+      λ h. spells-has-iff t B R x .1 (m x .0 (spells-has-iff s A S x .0 h)),
+      λ h. spells-has-iff s A S x .1 (m x .1 (spells-has-iff t B R x .0 h)),
+    ))

@@ -1,52 +1,35 @@
 -- The paths of the lag-checking graph are the left runs with the counters along them: a successor of a vertex is a transition from its
 -- left state with the counters stepped. Assumes nothing.
 use mathlib.Core.Path.{_≡_, refl, subst}
-use mathlib.Core.Logic.{⊎-elim}
-use mathlib.Core.List.{List, [], _∷_, map, flatMap, List·Memᴰ, List·Memᴰ·head, List·Memᴰ·tail, List·Memᴰ·not-nil, List·Memᴰ·append-cases, Memᴰ·append-left, Memᴰ·append-right, Memᴰ·map, Memᴰ·of-map}
+use mathlib.Core.List.{List, [], _∷_, map, List·Memᴰ, Memᴰ·map, Memᴰ·of-map}
 use Prim.Native.Nat.{ℕ}
-use native.Mathlib.Nat.{zero-add}
 use lib.Dec.{T}
 use Rattle.automaton.specs.declared.Automaton.{Automaton}
-use Rattle.automaton.specs.Ranges.{table}
 use Rattle.automaton.specs.Automata.{transition, targets}
 use Rattle.runs.specs.Runs.{Run, here, step}
-use Rattle.automaton.proofs.Ranges.{table-has, those-has, those-pass}
+use Rattle.automaton.proofs.Ranges.{those-pass}
+use Rattle.automaton.proofs.Lists.{those-at, chained-from, chained-at}
 use Rattle.automaton.proofs.Transitions.{transition-on, transition-into}
 use Rattle.slots.specs.declared.Vertex.{Vertex}
 use Rattle.graph.specs.LagGraph.{initialVertex, stepped, successor, successors, lagGraph}
 use Rattle.graph.specs.Discovery.{Path, stay, along}
 use Rattle.graph.specs.Meaning.{countersFrom, countersAfter}
 
-module _ {X Y : Type 0} where
-  flatMap-has : (f : X → List Y) (l : List X) (x : X) (y : Y) → List·Memᴰ x l → List·Memᴰ y (f x) → List·Memᴰ y (flatMap f l)
-  unfolding flatMap
-  flatMap-has f [] x y m k = absurd (List·Memᴰ·not-nil m)
-  flatMap-has f (z ∷ l) x y (List·Memᴰ·head e) k = Memᴰ·append-left _ (subst (λ (v : X). List·Memᴰ y (f v)) e k)
-  flatMap-has f (z ∷ l) x y (List·Memᴰ·tail m) k = Memᴰ·append-right (f z) (flatMap-has f l x y m k)
-
-  flatMap-from : (f : X → List Y) (l : List X) (y : Y) → List·Memᴰ y (flatMap f l) → (x : X) × List·Memᴰ y (f x)
-  unfolding flatMap
-  flatMap-from f [] y m = absurd (List·Memᴰ·not-nil m)
-  flatMap-from f (z ∷ l) y m = ⊎-elim (λ k. (z, k)) (λ k. flatMap-from f l y k) (List·Memᴰ·append-cases (f z) m)
-
 module _ (A B : Automaton) (b : ℕ) where
   pub successors-have : (v : Vertex) (a t : ℕ) → T (transition A (v .left) a t)
       → List·Memᴰ (successor A B b v a t) (successors A B b v)
   unfolding successors targets
   successors-have v a t x =
-      flatMap-has (λ c. map (successor A B b v c) (targets A (v .left) c)) (table (λ c. c) (A .letters) 0) a
-      (successor A B b v a t)
-      (rw zero-add at (table-has (λ c. c) (A .letters) 0 a (transition-on A (v .left) a t x)))
-      (Memᴰ·map (successor A B b v a)
-      (rw zero-add at
-      (those-has (transition A (v .left) a) (A .states) 0 t (transition-into A (v .left) a t x) (rw zero-add x))))
+      chained-at (λ c. map (successor A B b v c) (targets A (v .left) c)) (A .letters) a (successor A B b v a t)
+      (transition-on A (v .left) a t x)
+      (Memᴰ·map (successor A B b v a) (those-at (transition A (v .left) a) (A .states) t (transition-into A (v .left) a t x) x))
 
   pub successors-are : (v : Vertex) (e : ℕ × Vertex) → List·Memᴰ e (successors A B b v)
       → (a : ℕ) × (t : ℕ) × T (transition A (v .left) a t) × (successor A B b v a t ≡ e)
   unfolding successors targets
   successors-are v e m =
-      let c = flatMap-from (λ a. map (successor A B b v a) (targets A (v .left) a)) (table (λ a. a) (A .letters) 0) e m in
-      let k = Memᴰ·of-map (successor A B b v (c .0)) (targets A (v .left) (c .0)) (c .1) in
+      let c = chained-from (λ a. map (successor A B b v a) (targets A (v .left) a)) (A .letters) 0 e m in
+      let k = Memᴰ·of-map (successor A B b v (c .0)) (targets A (v .left) (c .0)) (c .3) in
       (c .0, k .0, those-pass (transition A (v .left) (c .0)) (A .states) 0 (k .0) (k .1), k .2)
 
   -- a left run on w that leads from u to v, with the counters along it

@@ -10,12 +10,12 @@
 --   lagGraph           the graph, whose final vertices have no counter above 0
 -- Shown by `counters-mean` and `contained-no-final`. Assumes nothing.
 use mathlib.Core.Bool.{cond, _&&_, not}
-use mathlib.Core.List.{List, map, flatMap}
+use mathlib.Core.List.{List, map}
 use Prim.Native.Nat.{ℕ, _+_, _-_}
 use lib.Dec.{eqb, ltb}
 use lib.ListN.{getD}
 use Rattle.automaton.specs.declared.Automaton.{Automaton}
-use Rattle.automaton.specs.Ranges.{some, table, largest}
+use Rattle.automaton.specs.Ranges.{some, chained, table, largest}
 use Rattle.automaton.specs.Automata.{maxStates, accepts, transition, targets}
 use Rattle.slots.specs.declared.Vertex.{Vertex}
 use Rattle.slots.specs.Slots.{sameVertex, allZero}
@@ -45,7 +45,7 @@ module _ (A B : Automaton) (b : ℕ) where
   successor v a t = (a, record { left = t; counters = stepped a t (v .counters) })
 
   unfoldable pub successors : Vertex → List (ℕ × Vertex)
-  successors v = flatMap (λ a. map (successor v a) (targets A (v .left) a)) (table (λ a. a) (A .letters) 0)
+  successors v = chained (λ a. map (successor v a) (targets A (v .left) a)) (A .letters) 0
 
   abbrev pub lagGraph : Graph
   lagGraph =

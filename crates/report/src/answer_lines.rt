@@ -2,7 +2,7 @@
 ghost use mathlib.Core.List.{List, _++_};
 ghost use Prim.Native.Nat.{ℕ, _+_, _*_, _≤_};
 ghost use lib.ListN.{length};
-ghost use Rattle.buffers.specs.Buffers.{Written};
+ghost use Rattle.buffers.specs.Buffers.{WrittenAt};
 ghost use Rattle.text.specs.Text.{decimal, space};
 ghost use Rattle.report.specs.Line.{newline, wordText, fields, offerLine, refusedLine, lineRoom};
 ghost use Rattle.text.specs.Text.{letters as lettersText};
@@ -26,7 +26,7 @@ pub struct Summary {
 // Writes the fields of an entry, from the space before the edition number to the space before the counts.
 fn put_fields(line: &mut [u8], at: usize, summary: Summary) -> usize
     requires { ⌜ at + 107 ≤ length (now line) ⌝ }
-    ensures { λ r. ⌜ ((E : Entry) → SummaryOf E summary → Written (now (line .entry)) at (fields E) (now (line .exit)) r) ⌝ }
+    ensures { λ r. ⌜ ((E : Entry) → SummaryOf E summary → WrittenAt (now (line .entry)) at (fields E) (now (line .exit)) r) ⌝ }
     ensures { λ r. ⌜ r ≤ at + 107 ⌝ }
 {
     let edition = put_field(line, at, b" ", summary.edition);
@@ -42,7 +42,7 @@ fn put_front(line: &mut [u8], outcome: &[u8], summary: Summary, forward: usize) 
     requires { ⌜ length (now outcome) + 128 ≤ length (now line) ⌝ }
     ensures { λ r. ⌜
         ((E : Entry) → SummaryOf E summary
-        → Written (now (line .entry)) 0 (now (outcome .entry) ++ fields E ++ decimal forward ++ space) (now (line .exit)) r)
+        → WrittenAt (now (line .entry)) 0 (now (outcome .entry) ++ fields E ++ decimal forward ++ space) (now (line .exit)) r)
         ⌝ }
     ensures { λ r. ⌜ r ≤ length (now (outcome .entry)) + 128 ⌝ }
 {
@@ -55,7 +55,7 @@ fn put_front(line: &mut [u8], outcome: &[u8], summary: Summary, forward: usize) 
 // Writes a line's end with a word: `word`, the letters and the newline.
 fn put_word(line: &mut [u8], at: usize, letters: &[u8]) -> usize
     requires { ⌜ at + 6 + 4 * length (now letters) ≤ length (now line) ⌝ }
-    ensures { λ r. ⌜ Written (now (line .entry)) at (wordText ++ lettersText (now (letters .entry)) ++ newline) (now (line .exit)) r ⌝ }
+    ensures { λ r. ⌜ WrittenAt (now (line .entry)) at (wordText ++ lettersText (now (letters .entry)) ++ newline) (now (line .exit)) r ⌝ }
 {
     let start = put_text(line, at, b" word");
     let behind = put_letters(line, start, letters);
@@ -67,7 +67,7 @@ fn put_taken(line: &mut [u8], summary: Summary, forward: usize, back: usize) -> 
     requires { ⌜ 256 ≤ length (now line) ⌝ }
     ensures { λ r. ⌜
         ((E : Entry) (w : List ℕ) → SummaryOf E summary
-        → Written (now (line .entry)) 0 (offerLine E (OfferAnswer.Taken forward back) w) (now (line .exit)) r)
+        → WrittenAt (now (line .entry)) 0 (offerLine E (OfferAnswer.Taken forward back) w) (now (line .exit)) r)
         ⌝ }
 {
     let count = put_front(line, b"taken", summary, forward);
@@ -80,7 +80,7 @@ fn put_forward(line: &mut [u8], summary: Summary, forward: usize, letters: &[u8]
     requires { ⌜ lineRoom (now letters) ≤ length (now line) ⌝ }
     ensures { λ r. ⌜
         ((E : Entry) (n : ℕ) → SummaryOf E summary
-        → Written (now (line .entry)) 0 (offerLine E (OfferAnswer.Forward forward n) (now (letters .entry))) (now (line .exit)) r)
+        → WrittenAt (now (line .entry)) 0 (offerLine E (OfferAnswer.Forward forward n) (now (letters .entry))) (now (line .exit)) r)
         ⌝ }
 {
     let count = put_front(line, b"forward", summary, forward);
@@ -93,7 +93,7 @@ fn put_back(line: &mut [u8], summary: Summary, forward: usize, back: usize, lett
     requires { ⌜ lineRoom (now letters) ≤ length (now line) ⌝ }
     ensures { λ r. ⌜
         ((E : Entry) (n : ℕ) → SummaryOf E summary
-        → Written (now (line .entry)) 0 (offerLine E (OfferAnswer.Back forward back n) (now (letters .entry))) (now (line .exit)) r)
+        → WrittenAt (now (line .entry)) 0 (offerLine E (OfferAnswer.Back forward back n) (now (letters .entry))) (now (line .exit)) r)
         ⌝ }
 {
     let count = put_front(line, b"back", summary, forward);
@@ -104,7 +104,7 @@ fn put_back(line: &mut [u8], summary: Summary, forward: usize, back: usize, lett
 // Writes the line of a refusal.
 pub fn put_refused(line: &mut [u8], n: usize) -> usize
     requires { ⌜ 256 ≤ length (now line) ⌝ }
-    ensures { λ r. ⌜ Written (now (line .entry)) 0 (refusedLine n) (now (line .exit)) r ⌝ }
+    ensures { λ r. ⌜ WrittenAt (now (line .entry)) 0 (refusedLine n) (now (line .exit)) r ⌝ }
 {
     let behind = put_field(line, 0, b"refused ", n);
     put_byte(line, behind, b'\n')
@@ -115,7 +115,7 @@ pub fn put_answer(line: &mut [u8], summary: Summary, answer: OfferAnswer, letter
     requires { ⌜ lineRoom (now letters) ≤ length (now line) ⌝ }
     ensures { λ r. ⌜
         ((E : Entry) → SummaryOf E summary
-        → Written (now (line .entry)) 0 (offerLine E answer (now (letters .entry))) (now (line .exit)) r)
+        → WrittenAt (now (line .entry)) 0 (offerLine E answer (now (letters .entry))) (now (line .exit)) r)
         ⌝ }
 {
     match answer {

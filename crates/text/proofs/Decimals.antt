@@ -8,7 +8,7 @@ use native.Mathlib.Omega.{arith}
 use lib.Dec.{ltb}
 use lib.ListN.{length, length-append}
 use borrow.Author.Tests.{lt-ltb, le-ltb, ltb-true, ltb-false}
-use Rattle.buffers.specs.Buffers.{Written}
+use Rattle.buffers.specs.Buffers.{WrittenAt}
 use Rattle.text.specs.Text.{digits, decimal}
 use Rattle.buffers.proofs.Buffers.{written-append, written-as}
 
@@ -61,10 +61,10 @@ pub decimal-more-length : (n : ℕ) → 10 ≤ n → length (decimal n) ≡ leng
 decimal-more-length n h = ap length (decimal-more n h) ∙ length-append (decimal (n / 10)) ((0x30 + n % 10) ∷ [])
 
 -- a single digit is written, and a last digit behind the others
-pub written-digit : {d e : List ℕ} {at r : ℕ} (n b : ℕ) → n < 10 → b ≡ 0x30 + n → Written d at (b ∷ []) e r → Written d at (decimal n) e r
+pub written-digit : {d e : List ℕ} {at r : ℕ} (n b : ℕ) → n < 10 → b ≡ 0x30 + n → WrittenAt d at (b ∷ []) e r → WrittenAt d at (decimal n) e r
 written-digit n b h q w = written-as (ap (λ (x : ℕ). x ∷ []) q ∙ sym (decimal-digit n h)) w
 
 pub written-last-digit : {d e f : List ℕ} {at next r : ℕ} (n b : ℕ) → 10 ≤ n
-    → Written d at (decimal (n / 10)) e next → b ≡ 0x30 + n % 10 → Written e next (b ∷ []) f r → Written d at (decimal n) f r
+    → WrittenAt d at (decimal (n / 10)) e next → b ≡ 0x30 + n % 10 → WrittenAt e next (b ∷ []) f r → WrittenAt d at (decimal n) f r
 written-last-digit n b h u q w =
     written-as (ap (λ (x : ℕ). decimal (n / 10) ++ (x ∷ [])) q ∙ sym (decimal-more n h)) (written-append u w)

@@ -1,20 +1,20 @@
 -- The loop over the letters of a place and the loop over the places follow the definition: before each letter, and before each place,
 -- what is left of the fold from the list that the work buffer shows makes the walk of the whole. Assumes nothing.
 use mathlib.Core.Path.{_≡_, sym, _∙_, ap, subst}
-use mathlib.Core.List.{List, [], _++_, map, flatMap}
+use mathlib.Core.List.{List}
 use Prim.Native.Nat.{ℕ, suc, _+_, _-_, _≤_, _<_}
 use native.Mathlib.Nat.{sub-zero}
 use native.Mathlib.Numerals.{add-one}
 use native.Mathlib.Omega.{arith}
 use lib.ListN.{length}
 use Rattle.automaton.specs.declared.Automaton.{Automaton}
-use Rattle.automaton.specs.Automata.{targets}
-use Rattle.automaton.specs.Ranges.{table}
+use Rattle.automaton.specs.Ranges.{chained}
+use Rattle.automaton.proofs.Lists.{chained-start, chained-past, chained-end}
 use Rattle.slots.specs.declared.Vertex.{Vertex}
 use Rattle.slots.specs.Slots.{slotCount}
 use Rattle.slots.specs.Bytes.{vertexAt}
 use Rattle.graph.specs.Discovery.{Node, Walk, going, ended, full, below, discoverAll, successorsAt, expand, expandAll}
-use Rattle.graph.specs.LagGraph.{successor, successors, lagGraph}
+use Rattle.graph.specs.LagGraph.{successors, lagGraph}
 use Rattle.graph.proofs.Discoveries.{successors-in, expand-all-ended, expand-all-full, expand-all-past}
 use Rattle.discovery.specs.declared.Walked.{Walked}
 use Rattle.discovery.specs.declared.Walked.the-variants.{Going}
@@ -30,19 +30,11 @@ use Rattle.successors.proofs.LetterSteps.{edgesOn, LetterDone}
 module _ (A B : Automaton) (b : ℕ) (v : Vertex) where
   -- the successors on the letters from a on, of k
   abbrev pub edgesFromLetter : ℕ → ℕ → List (ℕ × Vertex)
-  edgesFromLetter k a = flatMap (edgesOn A B b v) (table (λ c. c) (k - a) a)
+  edgesFromLetter k a = chained (edgesOn A B b v) (k - a) a
 
   edges-all : successors A B b v ≡ edgesFromLetter (A .letters) 0
   unfolding successors
-  edges-all = ap (λ (n : ℕ). flatMap (edgesOn A B b v) (table (λ c. c) n 0)) (sym (sub-zero (A .letters)))
-
-  edges-more : (k a : ℕ) → a < k → edgesFromLetter k a ≡ edgesOn A B b v a ++ edgesFromLetter k (a + 1)
-  unfolding flatMap table
-  edges-more k a h = let q : k - a ≡ suc (k - (a + 1)) = omega arith in rw (q, add-one)
-
-  edges-none : (k a : ℕ) → k ≤ a → edgesFromLetter k a ≡ []
-  unfolding flatMap table
-  edges-none k a h = let q : k - a ≡ 0 = omega arith in rw q
+  edges-all = chained-start (edgesOn A B b v) (A .letters)
 
 -- Before letter a: the successors on the letters from a on, discovered, expand place p.
 abbrev pub LettersToGo : Rules → List ℕ → List ℕ → List ℕ → Vertex → ℕ → List ℕ → ℕ → List ℕ → ℕ → ℕ → Type 0
@@ -75,18 +67,18 @@ module _ (rules : Rules) (tops lefts masks : List ℕ) (v : Vertex) (p : ℕ) (b
     pub letters-end : rules .letters ≤ a → PlaceDone rules tops lefts masks p before n work (Going m)
     letters-end h A B b R start ns S =
         onward-end A B b p work m start (edgesFromLetter A B b v (rules .letters) a) _ (O A B b R start ns S)
-        (edges-none A B b v (rules .letters) a h)
+        (chained-end (edgesOn A B b v) (rules .letters) a h)
 
     module _ (h : a < rules .letters) (work′ : List ℕ) (r : Walked) (seen : LetterDone rules tops lefts masks v a p work m work′ r) where
       pub letters-stop : EndsWalk r → PlaceDone rules tops lefts masks p before n work′ r
       letters-stop k A B b R start ns S =
           onward-stop A B b p work m work′ r start (edgesOn A B b v a) (edgesFromLetter A B b v (rules .letters) (a + 1))
-          (edgesFromLetter A B b v (rules .letters) a) _ (O A B b R start ns S) (edges-more A B b v (rules .letters) a h) (seen A B b R) k
+          (edgesFromLetter A B b v (rules .letters) a) _ (O A B b R start ns S) (chained-past (edgesOn A B b v) (rules .letters) a h) (seen A B b R) k
 
       pub letters-next : (x : ℕ) → r ≡ Going x → LettersToGo rules tops lefts masks v p before n work′ x (a + 1)
       letters-next x q A B b R start ns S =
           onward-next A B b p work m work′ r start (edgesOn A B b v a) (edgesFromLetter A B b v (rules .letters) (a + 1))
-          (edgesFromLetter A B b v (rules .letters) a) _ (O A B b R start ns S) (edges-more A B b v (rules .letters) a h) (seen A B b R) x q
+          (edgesFromLetter A B b v (rules .letters) a) _ (O A B b R start ns S) (chained-past (edgesOn A B b v) (rules .letters) a h) (seen A B b R) x q
 
 -- All places.
 

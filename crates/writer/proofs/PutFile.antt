@@ -7,7 +7,7 @@ use lib.ListN.{length}
 use Rattle.automaton.specs.declared.Automaton.{Automaton}
 use Rattle.automaton.specs.Sets.{bit, member}
 use Rattle.format.specs.Writing.{accepting-item, headerBytes, endBytes}
-use Rattle.buffers.specs.Buffers.{Written}
+use Rattle.buffers.specs.Buffers.{WrittenAt}
 use Rattle.buffers.proofs.Left.{Left, left-start, left-room, left-more, left-end}
 use Rattle.fixed_form.specs.FixedForm.{written}
 use Rattle.writer.specs.Parts.{recordsOf, transitionBytes}
@@ -31,26 +31,26 @@ module _ (A : Automaton) (w : ℕ) (few : A .states ≤ 32) (same : (q : ℕ) �
   pub header-room : 0 + length header ≤ length d
   header-room = left-room all-left header _ refl (omega arith)
 
-  module _ {e : List ℕ} {n : ℕ} (first : Written d 0 header e n) where
+  module _ {e : List ℕ} {n : ℕ} (first : WrittenAt d 0 header e n) where
     header-done : Left d 0 (written A) (accepting ++ (transitions ++ endBytes)) e n
     header-done = left-more all-left header _ refl first
 
     pub accepting-room : n + length accepting ≤ length e
     accepting-room = left-room header-done accepting _ refl (omega arith)
 
-    module _ {f : List ℕ} {m : ℕ} (second : Written e n accepting f m) where
+    module _ {f : List ℕ} {m : ℕ} (second : WrittenAt e n accepting f m) where
       accepting-done : Left d 0 (written A) (transitions ++ endBytes) f m
       accepting-done = left-more header-done accepting _ refl second
 
       pub transitions-room : m + length transitions ≤ length f
       transitions-room = left-room accepting-done transitions endBytes refl (omega arith)
 
-      module _ {g : List ℕ} {k : ℕ} (third : Written f m transitions g k) where
+      module _ {g : List ℕ} {k : ℕ} (third : WrittenAt f m transitions g k) where
         transitions-done : Left d 0 (written A) endBytes g k
         transitions-done = left-more accepting-done transitions endBytes refl third
 
         pub end-room : k + length endBytes ≤ length g
         end-room = left-room transitions-done endBytes [] refl (omega arith)
 
-        pub all-done : {h : List ℕ} {l : ℕ} → Written g k endBytes h l → Written d 0 (written A) h l
+        pub all-done : {h : List ℕ} {l : ℕ} → WrittenAt g k endBytes h l → WrittenAt d 0 (written A) h l
         all-done last = left-end (left-more transitions-done endBytes [] refl last) refl

@@ -11,7 +11,7 @@ use Rattle.automaton.proofs.Ranges.{next-from, next-to, next-holds}
 use Rattle.automaton.proofs.Members.{those-same}
 use Rattle.automaton.proofs.Lists.{those-next, those-here, those-end, chained-start, chained-past, chained-end}
 use Rattle.format.specs.Writing.{Item, itemBytes, itemsBytes}
-use Rattle.buffers.specs.Buffers.{Written}
+use Rattle.buffers.specs.Buffers.{WrittenAt}
 use Rattle.buffers.proofs.Left.{Left, left-start, left-length, left-room, left-more, left-end}
 use Rattle.writer.specs.Parts.{recordsOf}
 
@@ -59,7 +59,7 @@ module _ {g : ℕ → Item} {f : ℕ → Bool} {n : ℕ} where
     pub listing-length : length e ≡ length d
     listing-length = left-length (u .left)
 
-    pub listing-end : n ≤ r → Written d at (recordsOf g f n 0) e next
+    pub listing-end : n ≤ r → WrittenAt d at (recordsOf g f n 0) e next
     listing-end h = left-end (u .left) (records-end g f n r h)
 
     module _ (below : r < n) (few : n ≤ 32) where
@@ -67,7 +67,7 @@ module _ {g : ℕ → Item} {f : ℕ → Bool} {n : ℕ} where
       listing-room h =
           left-room (u .left) (itemBytes (g r)) _ (records-past g f n r _ below few (u .member (omega arith)) refl) h
 
-      pub listing-more : {e′ : List ℕ} {next′ : ℕ} (t : ℕ) → t ≡ nextFrom f (32 - (r + 1)) (r + 1) → Written e next (itemBytes (g r)) e′ next′
+      pub listing-more : {e′ : List ℕ} {next′ : ℕ} (t : ℕ) → t ≡ nextFrom f (32 - (r + 1)) (r + 1) → WrittenAt e next (itemBytes (g r)) e′ next′
           → Listing g f n d at e′ next′ t
       listing-more t q w =
           listing (r + 1) t (omega arith) q
@@ -93,12 +93,12 @@ module _ {f : ℕ → List ℕ} {m : ℕ} {d : List ℕ} {at : ℕ} {e : List �
   pub chaining-length : length e ≡ length d
   chaining-length = left-length (u .left)
 
-  pub chaining-end : m ≤ i → Written d at (chained f m 0) e next
+  pub chaining-end : m ≤ i → WrittenAt d at (chained f m 0) e next
   chaining-end h = left-end (u .left) (chained-end f m i h)
 
   module _ (below : i < m) where
     pub chaining-room : at + length (chained f m 0) ≤ length d → next + length (f i) ≤ length e
     chaining-room h = left-room (u .left) (f i) _ (chained-past f m i below) h
 
-    pub chaining-more : {e′ : List ℕ} {next′ : ℕ} → Written e next (f i) e′ next′ → Chaining f m d at e′ next′ (i + 1)
+    pub chaining-more : {e′ : List ℕ} {next′ : ℕ} → WrittenAt e next (f i) e′ next′ → Chaining f m d at e′ next′ (i + 1)
     chaining-more w = record { within = omega arith; left = left-more (u .left) (f i) _ (chained-past f m i below) w }

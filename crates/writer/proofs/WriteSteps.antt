@@ -8,7 +8,7 @@ use native.Mathlib.Omega.{arith}
 use lib.ListN.{length, drop}
 use Rattle.automaton.specs.declared.Automaton.{Automaton}
 use Rattle.format.specs.File.{refused, holds, readFile}
-use Rattle.buffers.specs.Buffers.{Written}
+use Rattle.buffers.specs.Buffers.{WrittenAt}
 use Rattle.fixed_form.specs.declared.WriteAnswer.{WriteAnswer}
 use Rattle.fixed_form.specs.declared.WriteAnswer.the-variants.{Wrote, Refused, NoRoom}
 use Rattle.fixed_form.specs.FixedForm.{written}
@@ -27,7 +27,7 @@ module _ (A : Automaton) (d : List ℕ) (needed : ℕ) (counted : needed ≡ len
       let e = writing-short A d (omega arith) in
       (ap NoRoom counted ∙ sym (ap (λ (w : Write). w .answer) e), sym (ap (λ (w : Write). w .out) e))
 
-  pub whole-writes : needed ≤ length d → {e : List ℕ} {n : ℕ} → Written d 0 (written A) e n → Gives (Wrote needed) e (writing A d)
+  pub whole-writes : needed ≤ length d → {e : List ℕ} {n : ℕ} → WrittenAt d 0 (written A) e n → Gives (Wrote needed) e (writing A d)
   whole-writes h u =
       let e = writing-room A d (omega arith) in (
         ap Wrote counted ∙ sym (ap (λ (w : Write). w .answer) e),

@@ -20,9 +20,9 @@ module _ (A : Automaton) where
   unfolding accepts
   accepts-bit q h = rw (lt-ltb q (A .states) h)
 
-  transition-parts : itemsBytes (transitionItems A) ≡ transitionBytes (A .transitions) (A .states) (A .letters)
+  transitions-in-parts : itemsBytes (transitionItems A) ≡ transitionBytes (A .transitions) (A .states) (A .letters)
   unfolding transitionItems
-  transition-parts =
+  transitions-in-parts =
       items-chained _ (A .states) 0
       ∙ chained-same _ _ (A .states) 0 (λ q _ h. items-chained _ (A .letters) 0
       ∙ chained-same _ _ (A .letters) 0 (λ a _ l. ap (λ (r : List ℕ). itemsBytes (map (transition-item q a) r))
@@ -35,9 +35,9 @@ module _ (A : Automaton) where
     accepting-count-word =
         total-same _ _ (A .states) 0 (λ q _ h. ap one (same q (omega arith) ∙ sym (accepts-bit q (omega arith))))
 
-    accepting-parts : itemsBytes (acceptingItems A) ≡ recordsOf accepting-item (bit w) (A .states) 0
+    accepting-in-parts : itemsBytes (acceptingItems A) ≡ recordsOf accepting-item (bit w) (A .states) 0
     unfolding acceptingItems
-    accepting-parts =
+    accepting-in-parts =
         ap (λ (x : List ℕ). itemsBytes (map accepting-item x))
         (those-same (accepts A) (bit w) (A .states) 0 (λ q _ h. accepts-bit q (omega arith) ∙ sym (same q (omega arith))))
 
@@ -48,5 +48,5 @@ module _ (A : Automaton) where
     written-parts =
         ap (λ (l : List ℕ). headerBytes (A .states) (A .letters) (A .initial) ++ l)
         (ap (λ (l : List ℕ). l ++ endBytes) (items-append (acceptingItems A) (transitionItems A)
-        ∙ ap₂ (λ (x y : List ℕ). x ++ y) accepting-parts transition-parts)
+        ∙ ap₂ (λ (x y : List ℕ). x ++ y) accepting-in-parts transitions-in-parts)
         ∙ append-assoc (recordsOf accepting-item (bit w) (A .states) 0) _ endBytes)

@@ -4,7 +4,7 @@ ghost use mathlib.Core.Path.{_≡_};
 ghost use Prim.Native.Nat.{_≤_};
 ghost use lib.ListN.{length};
 ghost use Rattle.automaton.specs.Automata.{wholeOf, InRange};
-ghost use Rattle.buffers.specs.Buffers.{Written};
+ghost use Rattle.buffers.specs.Buffers.{WrittenAt};
 ghost use Rattle.fixed_form.specs.FixedForm.{written};
 ghost use Rattle.fixed_form.specs.Write.{writing, writeOf};
 ghost use Rattle.fixed_form.specs.WriteDemand.{WriteDemand1};
@@ -28,7 +28,7 @@ fn put_file(out: &mut [u8], head: Head, transitions: &[u8; 2048]) -> usize
     requires { ⌜
         InRange (wholeOf head (now transitions)) × (length (written (wholeOf head (now transitions))) ≤ length (now out))
         ⌝ }
-    ensures { λ n. ⌜ Written (now (out .entry)) 0 (written (wholeOf head (now (transitions .entry)))) (now (out .exit)) n ⌝ }
+    ensures { λ n. ⌜ WrittenAt (now (out .entry)) 0 (written (wholeOf head (now (transitions .entry)))) (now (out .exit)) n ⌝ }
 {
     let states = head.states;
     let letters = head.letters;

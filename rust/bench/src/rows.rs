@@ -1,5 +1,7 @@
 //! The rows of the comparison.
 
+use differential::writing::LONGEST;
+
 use crate::calls::{make_all, Buffers, Call};
 use crate::checkers::{KERNEL, SECOND};
 use crate::inputs;
@@ -18,7 +20,7 @@ pub struct Row {
 pub const SLOTS: [usize; 4] = [0, 64, 512, 4096];
 
 /// The rows that give the time for each written byte, and the bytes of their files.
-pub const WRITES: [(&str, usize); 2] = [("write-half", 41_063), ("write-longest", 82_023)];
+pub const WRITES: [(&str, usize); 2] = [("write-half", 41_063), ("write-longest", LONGEST)];
 
 /// The name of the row with so many slots.
 pub fn slots_name(slots: usize) -> String {

@@ -14,7 +14,7 @@ pub const NO: u8 = 1;
 pub const REFUSED: u8 = 2;
 /// Wrong use, a file that cannot be read or written, or an answer that cannot be written.
 pub const FAILED: u8 = 3;
-/// The STORE or OUT is replaced, and something failed after that: the folder could not be synced, or the answer could not be written.
+/// The STORE or OUT is replaced or made, and something failed after that: the folder could not be synced, or the answer could not be written.
 pub const REPLACED: u8 = 4;
 
 /// An answer: the exit status, its kind in plain English, a text for people, and fields for programs.
@@ -27,7 +27,7 @@ pub struct Answer {
     pub fields: Vec<(&'static str, Value)>,
     /// A file's bytes, which people get on standard output in place of the text.
     pub bytes: Option<Vec<u8>>,
-    /// The STORE or OUT that the command has replaced.
+    /// The STORE or OUT that the command has replaced or made.
     pub replaced: Option<PathBuf>,
 }
 
@@ -44,7 +44,7 @@ impl Answer {
         }
     }
 
-    /// The answer of a command that has replaced this file.
+    /// The answer of a command that has replaced or made this file.
     pub fn replacing(mut self, file: &Path) -> Answer {
         self.replaced = Some(file.into());
         self
@@ -87,7 +87,7 @@ pub enum Failure {
     Usage(String),
     /// A file that cannot be read or written, or a form that the automaton does not have.
     File(String),
-    /// A STORE or OUT that is replaced, and is perhaps not on the disk.
+    /// A STORE or OUT that is replaced or made, and is perhaps not on the disk.
     Replaced(String),
     /// A refusal of the checker.
     Refused(Refusal),

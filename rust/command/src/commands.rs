@@ -52,7 +52,7 @@ fn walk_picture(files: [&[u8]; 2], bound: u8, slots: &[Slot], word: Option<&[u8]
 /// `open STORE FILE`.
 pub fn open(arguments: &Arguments) -> Result<Answer, Failure> {
     let file = arguments.source(2).whole()?;
-    let store = Store::at(arguments.path(1))?.lock_or_make()?;
+    let store = Store::at(arguments.path(1))?.lock_or_make(arguments.source(2))?;
     let mut entry = store.entry_or_fresh()?;
     entry.open(&file)?;
     store.replace(&entry)?;
@@ -68,7 +68,7 @@ pub fn open(arguments: &Arguments) -> Result<Answer, Failure> {
 pub fn offer(arguments: &Arguments) -> Result<Answer, Failure> {
     let bound = arguments.bound(3)?;
     let file = arguments.source(2).whole()?;
-    let store = Store::at(arguments.path(1))?.lock()?;
+    let store = Store::at(arguments.path(1))?.lock(arguments.source(2))?;
     let mut entry = store.entry()?;
     let mut buffers = Buffers::largest();
     match buffers.offer(&mut entry, &file, bound)? {
@@ -132,7 +132,7 @@ pub fn write(arguments: &Arguments) -> Result<Answer, Failure> {
         return Ok(to_output(written));
     }
     let (bytes, place) = (written?, arguments.path(2));
-    out::replace(place, &bytes)?;
+    out::replace(place, &bytes, arguments.source(1))?;
     let text = format!("written: {} bytes", bytes.len());
     Ok(Answer::new(YES, "written", text)
         .number("length", bytes.len() as u64)

@@ -1,8 +1,10 @@
-//! Reading files whole, up to a length.
+//! Reading files whole, up to a length, and telling whether two names are of one file.
 
 use std::fmt;
-use std::fs::File;
+use std::fs::{self, File, Metadata};
 use std::io::{self, Read};
+use std::os::fd::AsFd;
+use std::os::unix::fs::MetadataExt;
 use std::path::Path;
 
 use crate::answer::Failure;
@@ -45,10 +47,44 @@ impl Source<'_> {
     pub fn front(self, length: u64) -> Result<Vec<u8>, Failure> {
         let read = match self {
             Source::Input => read_front(io::stdin().lock(), length),
-            Source::File(path) => File::open(path).and_then(|file| read_front(file, length)),
+            Source::File(path) => front_at(path, length),
         };
         read.map_err(|error| Failure::File(format!("cannot read {self}: {error}")))
     }
+
+    /// Whether this is the file of that name.
+    pub fn is_at(self, path: &Path) -> bool {
+        let file = match self {
+            Source::Input => of_stream(io::stdin()),
+            Source::File(path) => fs::metadata(path),
+        };
+        are_one(file, fs::metadata(path))
+    }
+}
+
+/// Whether the file of this name is standard output, be that a file, a pipe or a device.
+pub fn is_output(path: &Path) -> bool {
+    are_one(of_stream(io::stdout()), fs::metadata(path))
+}
+
+/// What the system says of the file behind a stream.
+fn of_stream(stream: impl AsFd) -> io::Result<Metadata> {
+    File::from(stream.as_fd().try_clone_to_owned()?).metadata()
+}
+
+/// Whether both are there and are one file.
+fn are_one(first: io::Result<Metadata>, second: io::Result<Metadata>) -> bool {
+    first.is_ok_and(|first| second.is_ok_and(|second| is_same(&first, &second)))
+}
+
+/// Whether these are of one file, by its device and inode: links to a file are that file.
+pub fn is_same(first: &Metadata, second: &Metadata) -> bool {
+    (first.dev(), first.ino()) == (second.dev(), second.ino())
+}
+
+/// The bytes of the file of this name, but not more than `length` of them.
+pub fn front_at(path: &Path, length: u64) -> io::Result<Vec<u8>> {
+    read_front(File::open(path)?, length)
 }
 
 fn read_front(from: impl Read, length: u64) -> io::Result<Vec<u8>> {

@@ -80,8 +80,8 @@ claim in SPIN's; words after -- are no options.";
 
 const STATUS: &str = "\
 exit status: 0 contained, taken, opened, yes, written, shown; 1 differs, forward, back, no; 2 refused, with the number and what to
-do; 3 wrong use, or a file or an answer that cannot be read or written; 4 the STORE or OUT is replaced, but the answer cannot be
-written, or a power cut may bring the old one back.";
+do; 3 wrong use, or a file or an answer that cannot be read or written; 4 the STORE or OUT is replaced or made, but the answer
+cannot be written, or a power cut may undo that.";
 
 pub const COMMANDS: [Command; 7] = [
     Command {
@@ -149,7 +149,7 @@ pub const COMMANDS: [Command; 7] = [
                 source, letter and target, the end. Files that hold the same automaton give the same bytes. They go to OUT, which may\n\
                 be FILE and is replaced whole or not at all, or to standard output; with --json and without OUT they are in the\n\
                 object, in hexadecimal. Dead states do not matter.",
-        examples: "  ./edition write examples/any-order/until-sink.ba sink.ba\n  ./edition write - < examples/g.ba > g.ba",
+        examples: "  ./edition write examples/dead/until-sink.ba sink.ba\n  ./edition write - < examples/g.ba > g.ba",
         run: commands::write,
     },
     Command {

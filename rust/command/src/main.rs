@@ -52,7 +52,7 @@ fn untold(answer: &Answer) -> (u8, String) {
     match &answer.replaced {
         Some(file) => (
             REPLACED,
-            format!("{} is replaced ({}), but ", file.display(), answer.text),
+            format!("the new {} is in place ({}), but ", file.display(), answer.text),
         ),
         None if answer.status == REPLACED => (REPLACED, format!("{}; besides, ", answer.text)),
         None => (FAILED, String::new()),
@@ -94,7 +94,7 @@ fn version() -> Answer {
     Answer::new(YES, "version", text).with("version", Value::Text(edition::VERSION.into()))
 }
 
-/// What is wrong with the number of operands, with standard input as one or with the options, if anything.
+/// What is wrong with the number of operands, with the options, with a name or with standard input as a file, if anything.
 fn check(command: &Command, arguments: &Arguments) -> Result<(), String> {
     let (given, wanted) = (arguments.operands(), command.counts());
     if !wanted.contains(&given) {
@@ -109,6 +109,7 @@ fn check(command: &Command, arguments: &Arguments) -> Result<(), String> {
     if arguments.form() == Form::Never && !command.never {
         return Err(format!("{} prints no never claim", command.name));
     }
+    check_names(command, arguments)?;
     check_input(command, arguments)
 }
 
@@ -116,6 +117,19 @@ fn check(command: &Command, arguments: &Arguments) -> Result<(), String> {
 fn counted(counts: &RangeInclusive<usize>) -> String {
     let counts: Vec<String> = counts.clone().map(|count| count.to_string()).collect();
     format!("{} operands", counts.join(" or "))
+}
+
+/// What is wrong with the name of a STORE or an OUT, if anything: an empty one is none.
+fn check_names(command: &Command, arguments: &Arguments) -> Result<(), String> {
+    let named = (1..=arguments.operands()).zip(command.operands);
+    let mut replaced = named.filter(|(_, name)| [STORE, OUT].contains(name));
+    match replaced.find(|&(place, _)| arguments.operand(place).is_empty()) {
+        Some((_, name)) => Err(format!(
+            "{} is the name of a file, and '' is none",
+            name.trim_matches(['[', ']'])
+        )),
+        None => Ok(()),
+    }
 }
 
 /// What is wrong with standard input as a file, if anything: it is read once, and replaces no STORE and no OUT.

@@ -8,17 +8,19 @@
 use std::ffi::OsStr;
 use std::fs::{self, File, OpenOptions};
 use std::io::{self, ErrorKind, Write};
-use std::os::unix::fs::MetadataExt;
 use std::path::{Path, PathBuf};
 
 use crate::answer::Failure;
-use crate::files::failed;
+use crate::files::{failed, front_at, is_same, Source};
 
 const LOCK: &str = "lock";
 const UNFINISHED: &str = "unfinished";
 
 /// The place of a file that is replaced whole.
 pub struct Target {
+    /// The name that was given.
+    name: PathBuf,
+    /// Where the file is, links followed, if there is one.
     path: PathBuf,
 }
 
@@ -41,11 +43,20 @@ impl Target {
             );
             return Err(Failure::Usage(message));
         }
+        let name = path.to_path_buf();
         match path.canonicalize() {
-            Ok(path) => Ok(Target { path }),
-            Err(error) if error.kind() == ErrorKind::NotFound && !path.is_symlink() => Ok(Target { path: path.into() }),
+            Ok(path) => Ok(Target { name, path }),
+            Err(error) if error.kind() == ErrorKind::NotFound && !path.is_symlink() => Ok(Target {
+                path: name.clone(),
+                name,
+            }),
             Err(error) => Err(failed("read", path, &error)),
         }
+    }
+
+    /// The name that was given.
+    pub fn name(&self) -> &Path {
+        &self.name
     }
 
     pub fn path(&self) -> &Path {
@@ -55,20 +66,42 @@ impl Target {
     /// Whether there is a file.
     pub fn is_there(&self) -> Result<bool, Failure> {
         let there = self.path.try_exists();
-        there.map_err(|error| failed("read", &self.path, &error))
+        there.map_err(|error| failed("read", &self.name, &error))
     }
 
-    /// Waits until no other run is about to replace the file.
-    pub fn lock(self) -> Result<Locked, Failure> {
+    /// The bytes of the file, but not more than `length` of them.
+    pub fn front(&self, length: u64) -> Result<Vec<u8>, Failure> {
+        front_at(&self.path, length).map_err(|error| failed("read", &self.name, &error))
+    }
+
+    /// Waits until no other run is about to replace the file. FILE is what the new bytes come from.
+    pub fn lock(self, file: Source<'_>) -> Result<Locked, Failure> {
+        self.spare(file)?;
         let path = self.beside(LOCK);
-        loop {
-            let open = OpenOptions::new().create(true).truncate(false).write(true).open(&path);
-            let lock = open.map_err(|error| failed("open", &path, &error))?;
-            lock.lock().map_err(|error| failed("lock", &path, &error))?;
-            if is_file_at(&lock, &path).map_err(|error| failed("read", &path, &error))? {
-                return Ok(Locked { target: self, lock });
+        match lock_at(&path) {
+            Ok(lock) => Ok(Locked { target: self, lock }),
+            // The folder is missing.
+            Err(error) if error.kind() == ErrorKind::NotFound => Err(failed("write", &self.name, &error)),
+            Err(error) => {
+                let (name, path) = (self.name.display(), path.display());
+                Err(Failure::File(format!(
+                    "cannot write {name}: cannot lock {path}: {error}"
+                )))
             }
         }
+    }
+
+    /// Refuses a FILE that is NAME.unfinished: it would be removed.
+    fn spare(&self, file: Source<'_>) -> Result<(), Failure> {
+        let unfinished = self.beside(UNFINISHED);
+        if !file.is_at(&unfinished) {
+            return Ok(());
+        }
+        Err(Failure::File(format!(
+            "cannot write {}: FILE is {}, which is taken for the rest of a killed run and removed; move that file away first",
+            self.name.display(),
+            unfinished.display()
+        )))
     }
 
     /// The path of the file beside this one with this ending.
@@ -87,20 +120,21 @@ impl Locked {
 
     /// Replaces the file, or makes it.
     pub fn replace(&self, bytes: &[u8]) -> Result<(), Failure> {
-        let (path, unfinished) = (&self.target.path, self.target.beside(UNFINISHED));
+        let Target { name, path } = &self.target;
+        let unfinished = self.target.beside(UNFINISHED);
         let written = self
             .write(&unfinished, bytes)
             .map_err(|error| failed("write", &unfinished, &error));
         let renamed =
-            written.and_then(|()| fs::rename(&unfinished, path).map_err(|error| failed("replace", path, &error)));
+            written.and_then(|()| fs::rename(&unfinished, path).map_err(|error| failed("replace", name, &error)));
         renamed.inspect_err(|_| {
             // What cannot be removed here is removed by the next run that writes.
             let _ = fs::remove_file(&unfinished);
         })?;
         self.sync_folder().map_err(|error| {
             let message = format!(
-                "{} is replaced, but may be as before after a power cut: {error}",
-                path.display()
+                "the new {} is in place, but a power cut may undo that: {error}",
+                name.display()
             );
             Failure::Replaced(message)
         })
@@ -139,11 +173,22 @@ impl Locked {
     }
 }
 
+/// The file of this name, made where there is none, once this run holds its lock.
+fn lock_at(path: &Path) -> io::Result<File> {
+    loop {
+        let lock = OpenOptions::new().create(true).truncate(false).write(true).open(path)?;
+        lock.lock()?;
+        if is_file_at(&lock, path)? {
+            return Ok(lock);
+        }
+    }
+}
+
 /// Whether the open file is still the one of this name: its lock may be removed while others wait for it.
 fn is_file_at(file: &File, path: &Path) -> io::Result<bool> {
     let held = file.metadata()?;
     match fs::metadata(path) {
-        Ok(named) => Ok((held.dev(), held.ino()) == (named.dev(), named.ino())),
+        Ok(named) => Ok(is_same(&held, &named)),
         Err(error) if error.kind() == ErrorKind::NotFound => Ok(false),
         Err(error) => Err(error),
     }

@@ -5,7 +5,7 @@ use std::path::Path;
 use edition::{Entry, ENTRY_BYTES};
 
 use crate::answer::Failure;
-use crate::files::Source;
+use crate::files::{is_output, Source};
 use crate::replace::{self, Target};
 
 /// A STORE's place.
@@ -29,22 +29,30 @@ impl Store {
         entry(&self.target)
     }
 
-    /// Waits until no other run is about to replace the STORE. What is no STORE gets no lock beside it.
-    pub fn lock(self) -> Result<Locked, Failure> {
+    /// Waits until no other run is about to replace the STORE. FILE is what the new entry comes from. What is no STORE gets no lock
+    /// beside it.
+    pub fn lock(self, file: Source<'_>) -> Result<Locked, Failure> {
         self.entry()?;
-        self.locked()
+        self.locked(file)
     }
 
     /// As `lock`, for a STORE that may have to be made.
-    pub fn lock_or_make(self) -> Result<Locked, Failure> {
+    pub fn lock_or_make(self, file: Source<'_>) -> Result<Locked, Failure> {
         match self.target.is_there()? {
-            true => self.lock(),
-            false => self.locked(),
+            true => self.lock(file),
+            false => self.locked(file),
         }
     }
 
-    fn locked(self) -> Result<Locked, Failure> {
-        self.target.lock().map(|locked| Locked { locked })
+    fn locked(self, file: Source<'_>) -> Result<Locked, Failure> {
+        if is_output(self.target.path()) {
+            let message = format!(
+                "{} is standard output itself, and the answer goes there",
+                self.target.name().display()
+            );
+            return Err(Failure::Usage(message));
+        }
+        self.target.lock(file).map(|locked| Locked { locked })
     }
 }
 
@@ -78,6 +86,6 @@ impl Drop for Locked {
 }
 
 fn entry(target: &Target) -> Result<Entry, Failure> {
-    let bytes = Source::File(target.path()).front(ENTRY_BYTES as u64 + 1)?;
+    let bytes = target.front(ENTRY_BYTES as u64 + 1)?;
     Ok(Entry::from_bytes(&bytes)?)
 }

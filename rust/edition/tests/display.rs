@@ -1,5 +1,7 @@
 //! What is shown of automata and entries, against the second checker.
 
+mod examples;
+
 use edition::{Automaton, Entry};
 use second::automaton::members;
 
@@ -53,20 +55,8 @@ fn all_automata_of_three_states_and_one_letter_are_shown_as_they_are() {
 
 #[test]
 fn the_examples_are_shown_as_they_are() {
-    let folder = concat!(env!("CARGO_MANIFEST_DIR"), "/../../examples");
-    let paths = std::fs::read_dir(folder)
-        .expect("examples")
-        .map(|item| item.expect("an example").path());
-    let files: Vec<_> = paths
-        .filter(|path| path.extension().is_some_and(|ending| ending == "ba"))
-        .collect();
-    assert!(files.len() >= 4);
-    for path in files {
-        assert!(
-            !check(&std::fs::read(&path).expect("a file")),
-            "{} has dead states",
-            path.display()
-        );
+    for (path, bytes) in examples::all() {
+        assert!(!check(&bytes), "{} has dead states", path.display());
     }
 }
 

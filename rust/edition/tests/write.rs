@@ -1,5 +1,7 @@
 //! Files in the fixed form: from whatever order of records, whole, and in whatever buffer.
 
+mod examples;
+
 use edition::{archive, write, write_into, Refusal, MAX_FILE};
 
 const G: &[u8] = include_bytes!("../../../examples/g.ba");
@@ -71,16 +73,7 @@ fn the_largest_automaton_is_written_whole() {
 
 #[test]
 fn the_examples_are_in_the_fixed_form() {
-    let folder = concat!(env!("CARGO_MANIFEST_DIR"), "/../../examples");
-    let paths = std::fs::read_dir(folder)
-        .expect("examples")
-        .map(|item| item.expect("an example").path());
-    let files: Vec<_> = paths
-        .filter(|path| path.extension().is_some_and(|ending| ending == "ba"))
-        .collect();
-    assert!(files.len() >= 4);
-    for path in files {
-        let bytes = std::fs::read(&path).expect("a file");
+    for (path, bytes) in examples::all() {
         assert_eq!(write(&bytes), Ok(bytes), "{}", path.display());
     }
 }

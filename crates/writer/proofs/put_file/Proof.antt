@@ -13,51 +13,65 @@ of-bytes-requires c κs = search needs
 
 put-three-requires : tie.Need-put-three-requires
 put-three-requires c κs =
-    let s = c .before .before .before .before .before in
-    let o = c .before .of-bytes in
+    let set = c .before in
+    let s = set .before .before .before .before in
     let i = s .pre .0 in
     let A = wholeOf (s .args .head) (now (s .args .transitions)) in
-    let room = header-room A (o .result) (i .few-states) (o .ensures) (now (s .args .out)) (s .pre .1) in
+    let room = header-room A (set .of-bytes .result) (i .few-states) (set .of-bytes .ensures) (now (s .args .out)) (s .pre .1) in
     (omega (arith, i .few-states), omega (arith, i .few-letters), omega (arith, i .initial-below, i .few-states), room)
 
 put-accepting-requires : tie.Need-put-accepting-requires
 put-accepting-requires c κs =
-    let s = c .before .before .before .before .before .before .before .before .before in
-    let o = c .before .before .before .before .before .of-bytes in
+    let first = c .before .before .before in
+    let set = first .before .before in
+    let s = set .before .before .before .before in
     let i = s .pre .0 in
     let A = wholeOf (s .args .head) (now (s .args .transitions)) in
-    (i .few-states, accepting-room A (o .result) (i .few-states) (o .ensures) (now (s .args .out)) (s .pre .1) (c .before .before .before .put-three .ensures))
+    let room =
+    accepting-room A (set .of-bytes .result) (i .few-states) (set .of-bytes .ensures) (now (s .args .out)) (s .pre .1)
+    (first .put-three .ensures) in
+    (i .few-states, room)
 
 put-transitions-requires : tie.Need-put-transitions-requires
 put-transitions-requires c κs =
-    let s = c .before .before .before .before .before .before .before .before .before .before .before .before .before in
-    let o = c .before .before .before .before .before .before .before .before .before .of-bytes in
+    let second = c .before .before .before in
+    let first = second .before .before .before .before in
+    let set = first .before .before in
+    let s = set .before .before .before .before in
     let i = s .pre .0 in
-    let A = wholeOf (s .args .head) (now (s .args .transitions)) in (
-      (i .few-states, i .few-letters),
-      transitions-room A (o .result) (i .few-states) (o .ensures) (now (s .args .out)) (s .pre .1) (c .before .before .before .before .before .before .before .put-three .ensures) (c .before .before .before .put-accepting .ensures),
-    )
+    let A = wholeOf (s .args .head) (now (s .args .transitions)) in
+    let room =
+    transitions-room A (set .of-bytes .result) (i .few-states) (set .of-bytes .ensures) (now (s .args .out)) (s .pre .1)
+    (first .put-three .ensures) (second .put-accepting .ensures) in
+    ((i .few-states, i .few-letters), room)
 
 put-mark-requires : tie.Need-put-mark-requires
 put-mark-requires c κs =
-    let s = c .before .before .before .before .before .before .before .before .before .before .before .before .before .before .before .before .before in
-    let o = c .before .before .before .before .before .before .before .before .before .before .before .before .before .of-bytes in
+    let third = c .before .before .before in
+    let second = third .before .before .before .before in
+    let first = second .before .before .before .before in
+    let set = first .before .before in
+    let s = set .before .before .before .before in
     let i = s .pre .0 in
     let A = wholeOf (s .args .head) (now (s .args .transitions)) in
-    end-room A (o .result) (i .few-states) (o .ensures) (now (s .args .out)) (s .pre .1) (c .before .before .before .before .before .before .before .before .before .before .before .put-three .ensures) (c .before .before .before .before .before .before .before .put-accepting .ensures)
-    (c .before .before .before .put-transitions .ensures)
+    end-room A (set .of-bytes .result) (i .few-states) (set .of-bytes .ensures) (now (s .args .out)) (s .pre .1)
+    (first .put-three .ensures) (second .put-accepting .ensures) (third .put-transitions .ensures)
 
 same-length : tie.Need-same-length
 same-length c = search needs
 
 returns : tie.Need-returns
 returns c =
-    let s = c .before .before .before .before .before .before .before .before .before .before .before .before .before .before .before .before .before .before .before .before in
-    let o = c .before .before .before .before .before .before .before .before .before .before .before .before .before .before .before .before .of-bytes in
+    let last = c .before .before in
+    let third = last .before .before .before .before in
+    let second = third .before .before .before .before in
+    let first = second .before .before .before .before in
+    let set = first .before .before in
+    let s = set .before .before .before .before in
     let i = s .pre .0 in
     let A = wholeOf (s .args .head) (now (s .args .transitions)) in
-    all-done A (o .result) (i .few-states) (o .ensures) (now (s .args .out)) (s .pre .1) (c .before .before .before .before .before .before .before .before .before .before .before .before .before .before .put-three .ensures) (c .before .before .before .before .before .before .before .before .before .before .put-accepting .ensures)
-    (c .before .before .before .before .before .before .put-transitions .ensures) (c .before .before .put-mark .ensures)
+    all-done A (set .of-bytes .result) (i .few-states) (set .of-bytes .ensures) (now (s .args .out)) (s .pre .1)
+    (first .put-three .ensures) (second .put-accepting .ensures) (third .put-transitions .ensures) (last .put-mark .ensures)
 
 pub put-file-spec : {M : Type 1} → statement M
 put-file-spec =

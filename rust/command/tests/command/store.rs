@@ -74,18 +74,18 @@ fn a_fault_of_the_disk_is_told_and_leaves_the_old_entry_or_says_that_it_is_repla
     for (run, new) in &runs {
         let unsynced = run
             .err
-            .contains("s is replaced, but may be as before after a power cut: ");
-        let untold = run
-            .err
-            .contains("s is replaced (taken: edition 1, states 3 of 4, walks 5 8), but cannot write the answer: ");
+            .contains("the new s is in place, but a power cut may undo that: ");
+        let untold = run.err.contains(
+            "the new s is in place (taken: edition 1, states 3 of 4, walks 5 8), but cannot write the answer: ",
+        );
         assert_eq!(unsynced || untold, *new, "{run:?}");
     }
     let (full, unsynced) = ("No space left on device", "Input/output error");
     for (text, fault) in [
         ("s.unfinished", full),
         ("s.unfinished", unsynced),
-        ("is replaced, but", unsynced),
-        ("is replaced (taken: ", full),
+        ("is in place, but", unsynced),
+        ("is in place (taken: ", full),
     ] {
         assert!(
             runs.iter()
@@ -101,11 +101,11 @@ fn a_replaced_store_is_told_where_the_answer_cannot_be_written() {
     for (words, done) in [
         (
             "open s f.ba",
-            "s is replaced (opened: edition 0, 4 states), but cannot write",
+            "the new s is in place (opened: edition 0, 4 states), but cannot write",
         ),
         (
             "offer s g.ba 1 --json",
-            "s is replaced (taken: edition 1, states 3 of 4, walks 5 8), but cannot write",
+            "the new s is in place (taken: edition 1, states 3 of 4, walks 5 8), but cannot write",
         ),
     ] {
         let run = folder.run_untold(words);
@@ -140,7 +140,7 @@ fn with_a_fault_besides_a_replaced_store_is_told_too() {
         assert_eq!(run.status, if new { 4 } else { 3 }, "call {call}: {run:?}");
         // The fault may hit the message itself: then the status alone says it.
         assert!(
-            run.err.is_empty() || run.err.contains("s is replaced") == new,
+            run.err.is_empty() || run.err.contains("the new s is in place") == new,
             "call {call}: {run:?}"
         );
         silent += usize::from(run.err.is_empty());
@@ -252,6 +252,56 @@ fn what_a_killed_run_left_is_written_again() {
     folder.answers("offer s g.ba 1", 0, "taken: edition 1, states 3 of 4, walks 5 8");
     folder.answers("show s", 0, "entry: edition 1, first edition of 4 states");
     assert_eq!(folder.names("s"), ["s", "s.lock"]);
+}
+
+/// The answer would stand in a file that has no name any more.
+#[test]
+fn a_store_that_is_standard_output_is_refused() {
+    let folder = with_store("store_stdout");
+    symlink("s", folder.path("link")).expect("a link");
+    let (store, names) = (folder.read("s"), folder.names(""));
+    for words in [
+        ["offer", "s", "g.ba", "1"].as_slice(),
+        &["offer", "link", "g.ba", "1"],
+        &["open", "s", "f.ba"],
+    ] {
+        let output = OpenOptions::new().append(true).open(folder.path("s")).expect("a STORE");
+        let run = Run::of(folder.command(words).stdout(output).output().expect("a run"));
+        let text = format!("{} is standard output itself, ", words[1]);
+        assert!(run.status == 3 && run.err.starts_with(&text), "{run:?}");
+        assert_eq!((folder.read("s"), folder.names("")), (store.clone(), names.clone()));
+    }
+}
+
+/// What stands as STORE.unfinished is removed as the rest of a killed run, so it cannot be FILE too.
+#[test]
+fn a_file_that_is_the_unfinished_one_of_the_store_stays() {
+    let folder = Folder::new("own_unfinished");
+    let g = folder.read("g.ba");
+    folder.write("s.unfinished", &g);
+    symlink("s.unfinished", folder.path("link.ba")).expect("a link");
+    fs::hard_link(folder.path("s.unfinished"), folder.path("hard.ba")).expect("a hard link");
+    let check = |words: &str| {
+        let names = folder.names("");
+        for file in ["s.unfinished", "./s.unfinished", "link.ba", "hard.ba", "-"] {
+            let line = words.replace("FILE", file);
+            let run = folder.run_on("s.unfinished", &line.split(' ').collect::<Vec<_>>());
+            assert!(run.status == 3 && run.out.is_empty(), "{line}: {run:?}");
+            assert!(
+                run.err.starts_with("cannot write s: FILE is ") && run.err.contains("s.unfinished, "),
+                "{line}: {run:?}"
+            );
+        }
+        assert_eq!((folder.names(""), folder.read("s.unfinished")), (names, g.clone()));
+    };
+    check("open s FILE");
+    fs::rename(folder.path("s.unfinished"), folder.path("kept.ba")).expect("another name");
+    folder.answers("open s f.ba", 0, "opened: edition 0, 4 states");
+    fs::rename(folder.path("kept.ba"), folder.path("s.unfinished")).expect("the old name");
+    let store = folder.read("s");
+    check("open s FILE");
+    check("offer s FILE 1");
+    assert_eq!(folder.read("s"), store);
 }
 
 #[test]

@@ -1,10 +1,13 @@
 //! `write`: a file's automaton in the fixed form, on standard output or in OUT, and what is left of OUT whatever happens.
 
-use std::fs::{self, Permissions};
+use std::ffi::OsStr;
+use std::fs::{self, File, OpenOptions, Permissions};
 use std::os::unix::fs::{symlink, PermissionsExt};
 use std::os::unix::net::UnixListener;
+use std::path::{Path, PathBuf};
+use std::process::Stdio;
 
-use crate::folder::{Folder, Run};
+use crate::folder::{Folder, Run, ROOT};
 
 /// J of document 01, with its records in another order.
 pub const MIXED: &[u8] = b"AH\x02\x01\x00AT\x01\x00\x01AT\x00\x00\x01AF\x01AE";
@@ -69,10 +72,120 @@ fn out_is_made_or_replaced_and_may_be_the_file_itself() {
         run.status == 4
             && run
                 .err
-                .starts_with("new.ba is replaced (written: 50 bytes), but cannot write the answer: "),
+                .starts_with("the new new.ba is in place (written: 50 bytes), but cannot write the answer: "),
         "{run:?}"
     );
     assert_eq!(folder.read("new.ba"), folder.read("f.ba"));
+}
+
+/// examples/README.md promises it of every file.
+#[test]
+fn every_example_is_written_as_it_is() {
+    let folder = Folder::new("write_examples");
+    let examples = Path::new(ROOT).join("examples");
+    let items = [examples.clone(), examples.join("dead")].map(|place| fs::read_dir(place).expect("examples"));
+    let paths = items.into_iter().flatten().map(|item| item.expect("an example").path());
+    let files: Vec<PathBuf> = paths
+        .filter(|path| path.extension() == Some(OsStr::new("ba")))
+        .collect();
+    assert!(files.len() >= 20, "{files:?}");
+    assert!(files.contains(&examples.join("dead/until-sink.ba")), "{files:?}");
+    for path in files {
+        let run = folder.run(&[OsStr::new("write"), path.as_os_str()]);
+        let bytes = fs::read(&path).expect("a file");
+        assert_eq!((run.status, run.out.as_bytes()), (0, bytes.as_slice()), "{path:?}");
+    }
+}
+
+#[test]
+fn a_file_that_is_too_long_is_not_written() {
+    let folder = Folder::new("write_long");
+    folder.write("long.ba", &vec![b'A'; (1 << 20) + 1]);
+    for words in [["write", "long.ba"].as_slice(), &["write", "long.ba", "new.ba"]] {
+        let run = folder.run(words);
+        let text = "long.ba is longer than any automaton file: over 1048576 bytes";
+        assert!(
+            run.status == 3 && run.out.is_empty() && run.err.contains(text),
+            "{run:?}"
+        );
+    }
+    assert_eq!(folder.names("new"), [""; 0]);
+}
+
+/// What stands as OUT.unfinished is removed as the rest of a killed run, so it cannot be FILE too.
+#[test]
+fn a_file_that_is_the_unfinished_one_of_out_stays() {
+    let folder = with_mixed("write_own");
+    folder.write("out.ba.unfinished", MIXED);
+    symlink("out.ba.unfinished", folder.path("link.ba")).expect("a link");
+    fs::hard_link(folder.path("out.ba.unfinished"), folder.path("hard.ba")).expect("a hard link");
+    let refused = |run: Run, out: &str| {
+        assert!(run.status == 3 && run.out.is_empty(), "{run:?}");
+        assert!(
+            run.err.starts_with(&format!("cannot write {out}: FILE is ")) && run.err.contains("out.ba.unfinished, "),
+            "{run:?}"
+        );
+    };
+    let check = |out: &str| {
+        let names = folder.names("");
+        for file in ["out.ba.unfinished", "./out.ba.unfinished", "link.ba", "hard.ba"] {
+            refused(folder.run(&["write", file, out]), out);
+        }
+        refused(folder.run_on("out.ba.unfinished", &["write", "-", out]), out);
+        assert_eq!(folder.names(""), names);
+        assert_eq!(folder.read("out.ba.unfinished"), MIXED);
+    };
+    check("out.ba");
+    folder.write("out.ba", b"A");
+    symlink("out.ba", folder.path("out-link.ba")).expect("a link");
+    check("out.ba");
+    check("out-link.ba");
+    assert_eq!(folder.read("out.ba"), b"A");
+    folder.answers("write mixed.ba out.ba", 0, "written: 20 bytes");
+    assert_eq!(folder.names("out.ba"), ["out.ba"]);
+}
+
+/// What is renamed to the file behind standard output would leave the answer in a file without a name; a pipe cannot be replaced at all.
+#[test]
+fn an_out_that_is_standard_output_is_refused() {
+    let folder = with_mixed("write_stdout");
+    folder.write("out.ba", b"A");
+    symlink("out.ba", folder.path("link.ba")).expect("a link");
+    fs::hard_link(folder.path("out.ba"), folder.path("hard.ba")).expect("a hard link");
+    let names = folder.names("");
+    let refused = |run: Run, out: &str| {
+        let text = format!("{out} is standard output itself: leave OUT out, ");
+        assert!(
+            run.status == 3 && run.out.is_empty() && run.err.starts_with(&text),
+            "{run:?}"
+        );
+        assert_eq!(folder.read("out.ba"), b"A");
+        assert_eq!(folder.names(""), names);
+    };
+    // Here standard output is a pipe.
+    refused(folder.run(&["write", "mixed.ba", "/dev/stdout"]), "/dev/stdout");
+    for out in ["out.ba", "link.ba", "hard.ba", "/dev/stdout"] {
+        let file = OpenOptions::new().append(true).open(folder.path("out.ba"));
+        let mut command = folder.command(&["write", "mixed.ba", out]);
+        refused(
+            Run::of(command.stdout(file.expect("OUT")).output().expect("a run")),
+            out,
+        );
+    }
+}
+
+#[test]
+fn a_standard_output_elsewhere_does_not_matter_to_out() {
+    let folder = with_mixed("write_elsewhere");
+    let answer = File::create(folder.path("answer")).expect("a file");
+    for (name, output) in [("one.ba", Stdio::null()), ("two.ba", answer.into())] {
+        folder.write(name, b"A");
+        let mut command = folder.command(&["write", "mixed.ba", name]);
+        let run = Run::of(command.stdout(output).output().expect("a run"));
+        assert!(run.status == 0 && run.err.is_empty(), "{run:?}");
+        assert_eq!(folder.read(name), folder.read("j.ba"));
+    }
+    assert_eq!(folder.read("answer"), b"written: 20 bytes\n");
 }
 
 #[test]
@@ -98,38 +211,39 @@ fn a_store_and_what_is_no_plain_file_are_no_out() {
     let folder = Folder::new("write_no_out");
     folder.answers("open s f.ba", 0, "opened: edition 0, 4 states");
     folder.write("t", &[0; 2061]);
+    folder.write("short", &[0; 3]);
+    folder.write("other", &[b'B'; 2061]);
     fs::create_dir(folder.path("d")).expect("a folder");
     let _socket = UnixListener::bind(folder.path("socket")).expect("a socket");
-    let stores = ["s", "t"].map(|name| folder.read(name));
-    for (name, text) in [
-        ("s", "it is a STORE, which open and offer alone replace"),
-        ("t", "it is a STORE, which open and offer alone replace"),
-        ("d", "it is no plain file"),
-        ("socket", "it is no plain file"),
-    ] {
+    let files = ["s", "t", "short", "other"];
+    let stores = files.map(|name| folder.read(name));
+    let names = folder.names("");
+    let store = "it begins as a STORE does or is as long as one, and open and offer alone replace a STORE";
+    let special = "it is no plain file";
+    let refused = files.map(|name| (name, store)).into_iter();
+    for (name, why) in refused.chain([("d", special), ("socket", special)]) {
         let run = folder.run(&["write", "g.ba", name]);
         assert!(run.status == 3 && run.out.is_empty(), "{run:?}");
-        assert!(
-            run.err.starts_with("cannot replace ") && run.err.contains(text),
-            "{run:?}"
-        );
+        assert_eq!(run.err, format!("cannot replace {name}: {why}\n"));
     }
-    assert_eq!(["s", "t"].map(|name| folder.read(name)), stores);
-    assert_eq!(folder.names("s"), ["s", "s.lock", "socket"]);
-    assert_eq!((folder.names("t"), folder.names("d.")), (vec!["t".into()], vec![]));
+    assert_eq!(files.map(|name| folder.read(name)), stores);
+    assert_eq!(folder.names(""), names);
 }
 
 #[test]
 fn a_link_to_out_stays_a_link_and_permissions_stay() {
     let folder = with_mixed("write_link");
     folder.write("out.ba", b"A");
-    fs::set_permissions(folder.path("out.ba"), Permissions::from_mode(0o640)).expect("permissions");
     symlink("out.ba", folder.path("link.ba")).expect("a link");
-    folder.answers("write mixed.ba link.ba", 0, "written: 20 bytes");
-    assert_eq!(folder.read("out.ba"), folder.read("j.ba"));
-    assert!(folder.path("link.ba").is_symlink());
-    let kept = fs::metadata(folder.path("out.ba")).expect("OUT").permissions();
-    assert_eq!(kept.mode() & 0o777, 0o640);
+    // What may not be written may be replaced.
+    for (mode, file) in [(0o640, "f.ba"), (0o444, "g.ba")] {
+        fs::set_permissions(folder.path("out.ba"), Permissions::from_mode(mode)).expect("permissions");
+        assert_eq!(folder.run(&["write", file, "link.ba"]).status, 0);
+        assert_eq!(folder.read("out.ba"), folder.read(file));
+        assert!(folder.path("link.ba").is_symlink());
+        let kept = fs::metadata(folder.path("out.ba")).expect("OUT").permissions();
+        assert_eq!(kept.mode() & 0o777, mode);
+    }
     assert_eq!(
         (folder.names("link"), folder.names("out")),
         (vec!["link.ba".into()], vec!["out.ba".into()])
@@ -177,7 +291,7 @@ fn a_kill_at_any_call_leaves_the_old_file_or_the_new_one() {
 fn a_fault_of_the_disk_is_told_and_leaves_the_old_file_or_says_that_it_is_replaced() {
     let runs = stopped("write_fault", "fail");
     for (run, new) in &runs {
-        let told = run.err.contains("a.ba is replaced");
+        let told = run.err.contains("the new a.ba is in place");
         match run.status {
             0 => assert!(
                 *new && run.err.is_empty() && run.out == "written: 20 bytes\n",
@@ -191,11 +305,41 @@ fn a_fault_of_the_disk_is_told_and_leaves_the_old_file_or_says_that_it_is_replac
     for (text, fault) in [
         ("a.ba.unfinished", full),
         ("a.ba.unfinished", unsynced),
-        ("is replaced, but may be as before after a power cut: ", unsynced),
-        ("is replaced (written: 20 bytes), but cannot write the answer: ", full),
+        ("is in place, but a power cut may undo that: ", unsynced),
+        ("is in place (written: 20 bytes), but cannot write the answer: ", full),
     ] {
         let told = |run: &Run| run.err.contains(text) && run.err.contains(fault);
         assert!(runs.iter().any(|(run, _)| told(run)), "{text}: {fault}: {runs:?}");
+    }
+}
+
+/// A fault or a kill at each of twenty calls in turn, of which the last are past the end.
+#[test]
+fn where_there_was_no_out_a_stop_leaves_none_or_the_whole_new_one() {
+    let folder = with_mixed("write_stop_new");
+    let library = folder.stopper();
+    let (out, j) = (folder.path("new.ba"), folder.read("j.ba"));
+    let words = ["write", "mixed.ba", "new.ba"];
+    for how in ["fail", "kill"] {
+        let mut made = 0;
+        for call in 1..=20 {
+            let run = Run::of(folder.stopped(&words, &library, call, how).output().expect("a run"));
+            let whole = out.exists();
+            assert!(
+                !whole || folder.read("new.ba") == j,
+                "call {call} left a part of a file: {run:?}"
+            );
+            match run.status {
+                0 | 4 => assert!(whole, "call {call}: {run:?}"),
+                3 => assert_eq!(folder.names("new"), [""; 0], "call {call}: {run:?}"),
+                _ => assert!(how == "kill", "call {call}: {run:?}"),
+            }
+            made += usize::from(whole);
+            folder.answers("write mixed.ba new.ba", 0, "written: 20 bytes");
+            assert_eq!(folder.names("new"), ["new.ba"], "after call {call}");
+            fs::remove_file(&out).expect("OUT");
+        }
+        assert!((2..20).contains(&made), "{how}: {made} made");
     }
 }
 

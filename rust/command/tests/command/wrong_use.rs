@@ -113,11 +113,35 @@ fn missing_and_unreadable_files_are_told() {
     fails(&folder, "offer none g.ba 1", "none");
     fails(&folder, "verdict none 0 0", "cannot read none: ");
     for words in ["open d f.ba", "offer d f.ba 1", "verdict d 0 0"] {
-        fails(&folder, words, "cannot read ");
+        fails(&folder, words, "cannot read d: ");
     }
-    fails(&folder, "open none/s f.ba", "cannot open none/s.lock: ");
-    fails(&folder, "write f.ba none/s", "cannot open none/s.lock: ");
     assert_eq!(folder.names("s"), [""; 0]);
+}
+
+/// Where there can be no lock, the message names the STORE or OUT as it was given, be it a link.
+#[test]
+fn a_folder_that_is_missing_and_a_lock_that_cannot_be_made_are_told() {
+    let folder = Folder::new("no_lock_made");
+    fs::create_dir(folder.path("s.lock")).expect("a folder");
+    for (name, text) in [
+        ("none/s", "cannot write none/s: No such file "),
+        ("s", "cannot write s: cannot lock s.lock: "),
+    ] {
+        fails(&folder, &format!("open {name} f.ba"), text);
+        fails(&folder, &format!("write f.ba {name}"), text);
+    }
+    assert_eq!(folder.names("s"), ["s.lock"]);
+    assert_eq!(folder.names("none"), [""; 0]);
+    folder.answers("open t f.ba", 0, "opened: edition 0, 4 states");
+    folder.write("out.ba", b"A");
+    fs::remove_file(folder.path("t.lock")).expect("a lock");
+    for (place, link) in [("t", "to-store"), ("out.ba", "to-out")] {
+        fs::create_dir(folder.path(&format!("{place}.lock"))).expect("a folder");
+        symlink(place, folder.path(link)).expect("a link");
+    }
+    fails(&folder, "offer to-store g.ba 1", "cannot write to-store: cannot lock ");
+    fails(&folder, "write g.ba to-out", "cannot write to-out: cannot lock ");
+    assert_eq!(folder.read("out.ba"), b"A");
 }
 
 #[test]
@@ -193,6 +217,27 @@ fn a_name_of_a_store_or_out_is_none_of_the_files_beside_it() {
 }
 
 #[test]
+fn an_empty_name_is_no_store_and_no_out() {
+    let folder = Folder::new("empty_name");
+    let names = folder.names("");
+    for (words, operand) in [
+        (["open", "", "f.ba"].as_slice(), "STORE"),
+        (&["offer", "", "f.ba", "1"], "STORE"),
+        (&["verdict", "", "0", "0"], "STORE"),
+        (&["write", "f.ba", ""], "OUT"),
+        (&["write", "none.ba", ""], "OUT"),
+    ] {
+        let run = folder.run(words);
+        let text = format!("{operand} is the name of a file, and '' is none\nusage: ");
+        assert!(
+            run.status == 3 && run.out.is_empty() && run.err.starts_with(&text),
+            "{run:?}"
+        );
+    }
+    assert_eq!(folder.names(""), names);
+}
+
+#[test]
 fn an_answer_that_cannot_be_written_is_told() {
     let folder = Folder::new("full");
     for form in ["--json", "--dot"] {
@@ -230,7 +275,11 @@ fn help_names_every_command_and_has_examples() {
     let folder = Folder::new("help");
     let all = folder.run(&["--help"]);
     assert!(all.status == 0 && all.err.is_empty(), "{all:?}");
-    for limit in ["1,048,576 bytes", "65,536", "4 the STORE or OUT is replaced, but "] {
+    for limit in [
+        "1,048,576 bytes",
+        "65,536",
+        "4 the STORE or OUT is replaced or made, but ",
+    ] {
         assert!(all.out.contains(limit), "{limit}: {all:?}");
     }
     for command in ["listing", "contain", "open", "offer", "verdict", "write", "show"] {

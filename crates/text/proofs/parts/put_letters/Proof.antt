@@ -5,15 +5,15 @@ use Prim.Native.Nat.{ℕ, _+_, _-_, _*_, _≤_}
 use native.Mathlib.Omega.{arith}
 use lib.ListN.{length, take}
 use lib.Seq.{take-length}
-use Rattle.buffers.specs.Buffers.{Written}
+use Rattle.buffers.specs.Buffers.{WrittenAt}
 use Rattle.text.specs.Text.{letters}
-use Rattle.buffers.proofs.Buffers.{written-nothing, written-append, written-as, written-length}
+use Rattle.buffers.proofs.Buffers.{written-nothing, written-append, written-as, written-keeps-length}
 use Rattle.text.proofs.Letters.{letters-more}
 use Rattle.text.proofs.parts.put_letters.Statement.{statement}
 use Rattle.text.proofs.parts.put_letters.Tie as tie
 
 abbrev Inv-loop : tie.InvT-loop
-Inv-loop line₀ at word next₀ i₀ line next i = (i ≤ length word) × (next ≤ at + 4 * i) × Written line₀ at (letters (take i word)) line next
+Inv-loop line₀ at word next₀ i₀ line next i = (i ≤ length word) × (next ≤ at + 4 * i) × WrittenAt line₀ at (letters (take i word)) line next
 
 abbrev μ-loop : tie.MeasureT-loop
 μ-loop line₀ at word next₀ i₀ line next i = length word - i
@@ -26,7 +26,7 @@ shared-slice-read-put-letter : tie.Need-shared-slice-read-put-letter Inv-loop μ
 shared-slice-read-put-letter c = omega arith
 
 put-letter-requires : tie.Need-put-letter-requires Inv-loop μ-loop
-put-letter-requires c κs = omega (arith, written-length (c .before .before .before .loop .inv .2))
+put-letter-requires c κs = omega (arith, written-keeps-length (c .before .before .before .loop .inv .2))
 
 add-i : tie.Need-add-i Inv-loop μ-loop
 add-i c = omega arith
@@ -45,7 +45,7 @@ loop-again c =
     )
 
 same-length : tie.Need-same-length Inv-loop μ-loop
-same-length c = written-length (c .before .loop .inv .2)
+same-length c = written-keeps-length (c .before .loop .inv .2)
 
 returns : tie.Need-returns Inv-loop μ-loop
 returns c =

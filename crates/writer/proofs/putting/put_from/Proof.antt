@@ -1,4 +1,4 @@
--- `put_letters` meets its contract: the records on each letter, one after another; the states of a row are the targets. Assumes nothing.
+-- `put_from` meets its contract: the records on each letter, one after another; the states of a row are the targets. Assumes nothing.
 use mathlib.Core.Path.{sym, subst}
 use mathlib.Core.List.{List}
 use Prim.Native.Nat.{ℕ, _+_, _-_, _≤_}
@@ -10,8 +10,8 @@ use Rattle.format.specs.Writing.{transition-item}
 use Rattle.buffers.proofs.Buffers.{written-as}
 use Rattle.writer.specs.Parts.{targetBytes}
 use Rattle.writer.proofs.Records.{records-same, Chaining, chaining-start, chaining-length, chaining-room, chaining-more, chaining-end}
-use Rattle.writer.proofs.putting.put_letters.Statement.{statement}
-use Rattle.writer.proofs.putting.put_letters.Tie as tie
+use Rattle.writer.proofs.putting.put_from.Statement.{statement}
+use Rattle.writer.proofs.putting.put_from.Tie as tie
 
 abbrev Inv-loop : tie.InvT-loop
 Inv-loop out₀ at transitions states letters q next₀ a₀ out next a = Chaining (targetBytes transitions states q) letters out₀ at out next a
@@ -56,8 +56,8 @@ same-length c = chaining-length (c .before .loop .inv)
 returns : tie.Need-returns Inv-loop μ-loop
 returns c = chaining-end (c .before .loop .inv) (omega arith)
 
-pub put-letters-spec : {M : Type 1} → statement M
-put-letters-spec =
+pub put-from-spec : {M : Type 1} → statement M
+put-from-spec =
     tie.close
     (tie.spec
     Inv-loop
