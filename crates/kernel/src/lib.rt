@@ -8,6 +8,7 @@ ghost use mathlib.Core.Bool.{true};
 ghost use lib.ListN.{length};
 ghost use denote.Ref.{ptr};
 ghost use Rattle.fixed_form.specs.Write.{writeOf};
+ghost use Rattle.hanoi.specs.Hanoi.{hanoiOf};
 ghost use Rattle.answers.specs.Contain.{outcomeOf, workOf, wordBuffer, partLength, wordPart};
 ghost use Rattle.answers.specs.Demand2.{Demand2};
 ghost use Rattle.history.specs.Entries.{entryWith};
@@ -30,6 +31,7 @@ ghost use Rattle.kernel.specs.BytesDemand1.{
   EntryOfferDemand1,
   EntryVerdictDemand1,
   FileWriteDemand1,
+  HanoiWriteDemand1,
 };
 
 // Whether the first file's automaton is contained in the second's at the bound, as one number: kind + 2^8 count + 2^24 word
@@ -203,4 +205,14 @@ pub extern "C" fn file_write(file: &[u8], out: &mut [u8]) -> u64
     ensures demand1 { λ r. ⌜ FileWriteDemand1 (now (file .entry)) (now (out .entry)) ⌝ }
 {
     boundary::numbers::write_number(writer::write_file(file, out))
+}
+
+// Writes the automaton of a Hanoi text in the fixed form to the front of out, with a number as that of file_write: the refusals of a text are 3, 4, 17 and 18.
+#[no_mangle]
+pub extern "C" fn hanoi_write(text: &[u8], out: &mut [u8]) -> u64
+    ensures number { λ r. ⌜ r ≡ writeNumber (hanoiOf (now (text .entry)) (now (out .entry)) .answer) ⌝ }
+    ensures out { λ r. ⌜ now (out .exit) ≡ hanoiOf (now (text .entry)) (now (out .entry)) .out ⌝ }
+    ensures demand1 { λ r. ⌜ HanoiWriteDemand1 (now (text .entry)) (now (out .entry)) ⌝ }
+{
+    boundary::numbers::write_number(hanoi_reader::write_text(text, out))
 }

@@ -1,0 +1,159 @@
+// The body of a Hanoi text: what stands at a place of it, and what it does to the automaton so far.
+ghost use mathlib.Core.Path.{_≡_};
+ghost use mathlib.Core.Bool.{Bool};
+ghost use mathlib.Core.List.{List};
+ghost use Prim.Native.Nat.{ℕ, _≤_, _<_};
+ghost use lib.Dec.{eqb};
+ghost use lib.ListN.{length};
+ghost use Rattle.automaton.specs.Automata.{wholeOf};
+ghost use Rattle.hanoi.specs.Descriptions.{Described};
+ghost use Rattle.hanoi.specs.Reading.{Step, acceptance, stateAt, edgeAt, endAt, partAt};
+ghost use Rattle.hanoi_reader.specs.Items.{onwardValue, PastPlace};
+ghost use Rattle.hanoi_reader.specs.Taking.{InRanges, headOf, withMask, Held, Taken};
+use crate::Header;
+use crate::Item;
+use crate::Progress;
+use crate::header::number_in;
+use automaton::accepts_in;
+use automaton::add_member;
+use automaton::add_transition;
+use label_reader::Truth;
+use label_reader::label_at;
+use tokens::Went;
+use tokens::skip;
+use tokens::then_token;
+use tokens::token;
+
+// What stands behind `--END--`: white space alone, or a fault.
+fn take_end(text: &[u8], at: usize) -> Progress
+    requires { ⌜ at ≤ length (now text) ⌝ }
+    ensures { λ p. ⌜ ((D : Described) → endAt (now (text .entry)) at D ≡ endStep p D) ⌝ }
+{
+    if skip(text, at) == text.len() {
+        return Progress::Whole;
+    }
+    Progress::Refused(17)
+}
+
+// `{0}` behind a state's number, as 1, or nothing, as 0.
+fn mark_at(text: &[u8], at: usize) -> Item
+    requires { ⌜ at ≤ length (now text) ⌝ }
+    ensures meaning { λ r. ⌜
+        ((go : Bool → ℕ → Step) → acceptance (now (text .entry)) at go ≡ onwardValue r (λ v j. go (eqb v 1) j))
+        ⌝ }
+    ensures within { λ r. ⌜ PastPlace (now (text .entry)) at r ⌝ }
+{
+    let Went::Behind(opened) = token(text, at, b"{") else {
+        return Item::Value(0, at);
+    };
+    let set = token(text, opened, b"0");
+    let Went::Behind(next) = then_token(text, set, b"}") else {
+        return Item::Refused(17);
+    };
+    Item::Value(1, next)
+}
+
+// Declares state q, whose number ends at a place, unless it is declared. A refusal changes nothing.
+fn declare(
+    text: &[u8],
+    at: usize,
+    q: usize,
+    declared: &mut [u8; 4],
+    accepting: &mut [u8; 4],
+) -> Progress
+    requires { ⌜ (at ≤ length (now text)) × (q < 32) ⌝ }
+{
+    if accepts_in(declared, q) {
+        return Progress::Refused(17);
+    }
+    match mark_at(text, at) {
+        Item::Refused(number) => Progress::Refused(number),
+        Item::Value(mark, next) => {
+            add_member(declared, q);
+            if mark == 1 {
+                add_member(accepting, q);
+            }
+            Progress::Declared(q, next)
+        }
+    }
+}
+
+// Takes the state behind `State:`. A refusal changes nothing.
+fn take_state(
+    text: &[u8],
+    at: usize,
+    states: usize,
+    declared: &mut [u8; 4],
+    accepting: &mut [u8; 4],
+) -> Progress
+    requires { ⌜ (at ≤ length (now text)) × (states ≤ 32) ⌝ }
+{
+    match number_in(text, Went::Behind(at), 0, states, 4) {
+        Item::Refused(number) => Progress::Refused(number),
+        Item::Value(q, next) => declare(text, next, q, declared, accepting),
+    }
+}
+
+// Adds the transitions from q to r on those of the letters whose bit is set in the mask.
+fn add_letters(transitions: &mut [u8; 2048], q: usize, mask: usize, r: usize, letters: usize)
+    requires { ⌜ (q < 32) × (r < 32) × (letters ≤ 16) × (mask < 65536) ⌝ }
+    ensures { λ _. ⌜ now (transitions .exit) ≡ withMask (now (transitions .entry)) q mask r letters 0 ⌝ }
+{
+    let mut a: usize = 0;
+    while a < letters {
+        if (mask >> a) % 2 == 1 {
+            add_transition(transitions, q, a, r);
+        }
+        a += 1;
+    }
+}
+
+// Takes the edge of state q behind its `[`. A refusal changes nothing.
+fn take_edge(
+    text: &[u8],
+    at: usize,
+    header: Header,
+    q: usize,
+    transitions: &mut [u8; 2048],
+) -> Progress
+    requires { ⌜ (at ≤ length (now text)) × InRanges header × (q < 32) ⌝ }
+{
+    let Truth::On(mask, behind) = label_at(text, at, header.propositions) else {
+        return Progress::Refused(17);
+    };
+    let closed = token(text, behind, b"]");
+    match number_in(text, closed, 0, header.states, 4) {
+        Item::Refused(number) => Progress::Refused(number),
+        Item::Value(r, next) => {
+            add_letters(transitions, q, mask, r, crate::letters_of(header.propositions));
+            Progress::Goes(next)
+        }
+    }
+}
+
+// Takes what stands at a place: the end, a state, or an edge of the latest state, which is 32 where there is none. A refusal and the end change nothing.
+pub fn take_part(
+    text: &[u8],
+    at: usize,
+    header: Header,
+    latest: usize,
+    declared: &mut [u8; 4],
+    accepting: &mut [u8; 4],
+    transitions: &mut [u8; 2048],
+) -> Progress
+    requires { ⌜ (at ≤ length (now text)) × InRanges header ⌝ }
+{
+    if let Went::Behind(next) = token(text, at, b"--END--") {
+        return take_end(text, next);
+    }
+    if let Went::Behind(next) = token(text, at, b"State:") {
+        return take_state(text, next, header.states, declared, accepting);
+    }
+    let Went::Behind(next) = token(text, at, b"[") else {
+        return Progress::Refused(17);
+    };
+    if latest >= 32 {
+        return Progress::Refused(17);
+    }
+    take_edge(text, next, header, latest, transitions)
+}

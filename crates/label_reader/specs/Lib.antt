@@ -1,0 +1,2 @@
+-- How the code answers for a label.
+pub mod Truths
