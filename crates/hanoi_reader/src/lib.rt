@@ -1,20 +1,20 @@
 // The reader of Hanoi texts: the header, and then one state or edge after another up to the end or the first fault; and the call that writes the automaton of a
 // text. The crate `hanoi` says what a text describes.
 ghost use mathlib.Core.Path.{_≡_};
-ghost use Prim.Native.Nat.{_≤_};
-ghost use lib.ListN.{length, replicate};
+ghost use Prim.Native.Nat.{_≤_, _^_};
+ghost use lib.ListN.{replicate};
 ghost use Rattle.automaton.specs.Automata.{wholeOf};
 ghost use Rattle.hanoi.specs.Reading.{readHanoi};
 ghost use Rattle.hanoi.specs.Meaning.{automatonOf};
 ghost use Rattle.hanoi.specs.Hanoi.{hanoiOf};
 ghost use Rattle.hanoi.specs.HanoiDemand.{HanoiDemand1};
-ghost use Rattle.hanoi_reader.specs.Taking.{InRanges, Headed, headOf, describedBefore, refusalOf};
+ghost use Rattle.hanoi_reader.specs.Taking.{Headed, headOf, describedBefore, refusalOf};
 use automaton::Head;
 use automaton::power;
 use file::Reading;
 use fixed_form::WriteAnswer;
 
-mod header;
+mod items;
 mod parts;
 
 // A header's values.
@@ -98,7 +98,7 @@ fn read(text: &[u8], transitions: &mut [u8; 2048]) -> Reading
     ensures refusal { λ r. ⌜ r .refusal ≡ refusalOf (readHanoi (now (text .entry))) ⌝ }
     ensures automaton { λ r. ⌜ wholeOf (r .head) (now (transitions .exit)) ≡ automatonOf (describedBefore (now (text .entry))) ⌝ }
 {
-    match header::read_header(text) {
+    match items::read_header(text) {
         Start::NoHeader(number) => {
             let nothing = Header {
                 states: 0,

@@ -7,13 +7,15 @@ ghost use lib.Dec.{eqb};
 ghost use lib.ListN.{length};
 ghost use Rattle.automaton.specs.Automata.{wholeOf};
 ghost use Rattle.hanoi.specs.Descriptions.{Described};
-ghost use Rattle.hanoi.specs.Reading.{Step, acceptance, stateAt, edgeAt, endAt, partAt};
-ghost use Rattle.hanoi_reader.specs.Items.{onwardValue, PastPlace};
-ghost use Rattle.hanoi_reader.specs.Taking.{InRanges, headOf, withMask, Held, Taken};
+ghost use Rattle.tokens.specs.Tokens.{skip};
+ghost use Rattle.hanoi.specs.Reading.{Step, acceptance, stateAt, edgeAt, partAt};
+ghost use Rattle.hanoi_reader.specs.declared.Header.{Header};
+ghost use Rattle.hanoi_reader.specs.Items.{onwardValue, PastValue};
+ghost use Rattle.hanoi_reader.specs.Taking.{InRanges, headOf, declaration, withMask, Held, Taken};
 use crate::Header;
 use crate::Item;
 use crate::Progress;
-use crate::header::number_in;
+use crate::items::number_in;
 use automaton::accepts_in;
 use automaton::add_member;
 use automaton::add_transition;
@@ -24,15 +26,12 @@ use tokens::skip;
 use tokens::then_token;
 use tokens::token;
 
-// What stands behind `--END--`: white space alone, or a fault.
-fn take_end(text: &[u8], at: usize) -> Progress
+// Whether white space alone stands from a place on.
+fn ends(text: &[u8], at: usize) -> bool
     requires { ⌜ at ≤ length (now text) ⌝ }
-    ensures { λ p. ⌜ ((D : Described) → endAt (now (text .entry)) at D ≡ endStep p D) ⌝ }
+    ensures { λ r. ⌜ r ≡ eqb (skip (now (text .entry)) at) (length (now (text .entry))) ⌝ }
 {
-    if skip(text, at) == text.len() {
-        return Progress::Whole;
-    }
-    Progress::Refused(17)
+    skip(text, at) == text.len()
 }
 
 // `{0}` behind a state's number, as 1, or nothing, as 0.
@@ -41,7 +40,7 @@ fn mark_at(text: &[u8], at: usize) -> Item
     ensures meaning { λ r. ⌜
         ((go : Bool → ℕ → Step) → acceptance (now (text .entry)) at go ≡ onwardValue r (λ v j. go (eqb v 1) j))
         ⌝ }
-    ensures within { λ r. ⌜ PastPlace (now (text .entry)) at r ⌝ }
+    ensures within { λ r. ⌜ PastValue (now (text .entry)) at 0 2 r ⌝ }
 {
     let Went::Behind(opened) = token(text, at, b"{") else {
         return Item::Value(0, at);
@@ -62,6 +61,12 @@ fn declare(
     accepting: &mut [u8; 4],
 ) -> Progress
     requires { ⌜ (at ≤ length (now text)) × (q < 32) ⌝ }
+    ensures { λ p. ⌜
+        ((h : Header) (l : ℕ) (t : List ℕ) (D : Described) (i : ℕ) → i < at → q < h .states
+        → Held D h l (now (declared .entry)) (wholeOf (headOf h (now (accepting .entry))) t)
+        → Taken (now (text .entry)) i h l D (declaration (now (text .entry)) at q D) (now (declared .exit))
+          (wholeOf (headOf h (now (accepting .exit))) t) p)
+        ⌝ }
 {
     if accepts_in(declared, q) {
         return Progress::Refused(17);
@@ -82,13 +87,19 @@ fn declare(
 fn take_state(
     text: &[u8],
     at: usize,
-    states: usize,
+    header: Header,
     declared: &mut [u8; 4],
     accepting: &mut [u8; 4],
 ) -> Progress
-    requires { ⌜ (at ≤ length (now text)) × (states ≤ 32) ⌝ }
+    requires { ⌜ (at ≤ length (now text)) × InRanges header ⌝ }
+    ensures { λ p. ⌜
+        ((l : ℕ) (t : List ℕ) (D : Described) (i : ℕ) → i < at
+        → Held D header l (now (declared .entry)) (wholeOf (headOf header (now (accepting .entry))) t)
+        → Taken (now (text .entry)) i header l D (stateAt (now (text .entry)) at D) (now (declared .exit))
+          (wholeOf (headOf header (now (accepting .exit))) t) p)
+        ⌝ }
 {
-    match number_in(text, Went::Behind(at), 0, states, 4) {
+    match number_in(text, Went::Behind(at), 0, header.states, 4) {
         Item::Refused(number) => Progress::Refused(number),
         Item::Value(q, next) => declare(text, next, q, declared, accepting),
     }
@@ -117,6 +128,12 @@ fn take_edge(
     transitions: &mut [u8; 2048],
 ) -> Progress
     requires { ⌜ (at ≤ length (now text)) × InRanges header × (q < 32) ⌝ }
+    ensures { λ p. ⌜
+        ((d s : List ℕ) (D : Described) (i : ℕ) → i < at
+        → Held D header q d (wholeOf (headOf header s) (now (transitions .entry)))
+        → Taken (now (text .entry)) i header q D (edgeAt (now (text .entry)) at q D) d
+          (wholeOf (headOf header s) (now (transitions .exit))) p)
+        ⌝ }
 {
     let Truth::On(mask, behind) = label_at(text, at, header.propositions) else {
         return Progress::Refused(17);
@@ -142,12 +159,18 @@ pub fn take_part(
     transitions: &mut [u8; 2048],
 ) -> Progress
     requires { ⌜ (at ≤ length (now text)) × InRanges header ⌝ }
+    ensures { λ p. ⌜
+        ((D : Described)
+        → Held D header latest (now (declared .entry)) (wholeOf (headOf header (now (accepting .entry))) (now (transitions .entry)))
+        → Taken (now (text .entry)) at header latest D (partAt (now (text .entry)) at D) (now (declared .exit))
+          (wholeOf (headOf header (now (accepting .exit))) (now (transitions .exit))) p)
+        ⌝ }
 {
     if let Went::Behind(next) = token(text, at, b"--END--") {
-        return take_end(text, next);
+        return if ends(text, next) { Progress::Whole } else { Progress::Refused(17) };
     }
     if let Went::Behind(next) = token(text, at, b"State:") {
-        return take_state(text, next, header.states, declared, accepting);
+        return take_state(text, next, header, declared, accepting);
     }
     let Went::Behind(next) = token(text, at, b"[") else {
         return Progress::Refused(17);

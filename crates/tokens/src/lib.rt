@@ -1,7 +1,7 @@
 // The tokens of a Hanoi text, read at a place: words and marks, numbers of any length, quoted names. White space may stand before each.
 ghost use mathlib.Core.Path.{_≡_};
 ghost use mathlib.Core.Bool.{true};
-ghost use Prim.Native.Nat.{_≤_, _+_, _*_, _-_, min};
+ghost use Prim.Native.Nat.{ℕ, _≤_, _+_, _*_, _-_, min};
 ghost use lib.ListN.{length, drop};
 ghost use Rattle.tokens.specs.Tokens.{
   white,
@@ -127,7 +127,8 @@ pub fn token(text: &[u8], at: usize, word: &[u8]) -> Went
 pub fn then_token(text: &[u8], went: Went, word: &[u8]) -> Went
     requires { ⌜ Past (now text) 0 went ⌝ }
     ensures meaning { λ r. ⌜ r ≡ goesOn went (tokenAt (now (word .entry)) (now (text .entry))) ⌝ }
-    ensures within { λ r. ⌜ Past (now (text .entry)) 0 r ⌝ }
+    ensures within { λ r. ⌜ Past (now (text .entry)) (length (now (word .entry))) r ⌝ }
+    ensures further { λ r. ⌜ ((i : ℕ) → Past (now (text .entry)) i went → Past (now (text .entry)) i r) ⌝ }
 {
     match went {
         Went::Nowhere => Went::Nowhere,

@@ -18,8 +18,8 @@ ghost use Rattle.hanoi.specs.Reading.{
   headerEnd,
   header,
 };
-ghost use Rattle.hanoi_reader.specs.Items.{onward, onwardValue, PastValue};
-ghost use Rattle.hanoi_reader.specs.Taking.{InRanges, startStep, PastHeader};
+ghost use Rattle.hanoi_reader.specs.Items.{onward, onwardValue, checkedValue, PastValue};
+ghost use Rattle.hanoi_reader.specs.Taking.{startStep, PastHeader, fromStart, fromPropositions};
 use crate::Header;
 use crate::Item;
 use crate::Start;
@@ -47,7 +47,7 @@ pub fn number_in(text: &[u8], went: Went, low: usize, below: usize, refusal: usi
         ((ok : ℕ → Bool) → ((v : ℕ) → ok v ≡ (leb low v && ltb v below)) → (go : ℕ → ℕ → Step)
         → onward went (λ j. expectNumber (now (text .entry)) j (λ v l. check (ok v) refusal (go v l))) ≡ onwardValue r go)
         ⌝ }
-    ensures within { λ r. ⌜ PastValue (now (text .entry)) went low below r ⌝ }
+    ensures within { λ r. ⌜ ((i : ℕ) → Past (now (text .entry)) i went → PastValue (now (text .entry)) (i + 1) low below r) ⌝ }
 {
     let Went::Behind(at) = went else {
         return Item::Refused(17);
@@ -61,7 +61,7 @@ pub fn number_in(text: &[u8], went: Went, low: usize, below: usize, refusal: usi
 // `HOA: v1`, and the number of states.
 fn states_item(text: &[u8]) -> Item
     ensures meaning { λ r. ⌜ ((go : ℕ → ℕ → Step) → statesItem (now (text .entry)) go ≡ onwardValue r go) ⌝ }
-    ensures within { λ r. ⌜ PastValue (now (text .entry)) Went.Nowhere 1 33 r ⌝ }
+    ensures within { λ r. ⌜ PastValue (now (text .entry)) 0 1 33 r ⌝ }
 {
     let hoa = token(text, 0, b"HOA:");
     let version = then_token(text, hoa, b"v1");
@@ -73,7 +73,7 @@ fn states_item(text: &[u8]) -> Item
 fn start_item(text: &[u8], at: usize, states: usize) -> Item
     requires { ⌜ (at ≤ length (now text)) × (states ≤ 32) ⌝ }
     ensures meaning { λ r. ⌜ ((go : ℕ → ℕ → Step) → startItem states (now (text .entry)) at go ≡ onwardValue r go) ⌝ }
-    ensures within { λ r. ⌜ PastValue (now (text .entry)) Went.Nowhere 0 states r ⌝ }
+    ensures within { λ r. ⌜ PastValue (now (text .entry)) 0 0 states r ⌝ }
 {
     number_in(text, token(text, at, b"Start:"), 0, states, 3)
 }
@@ -82,7 +82,7 @@ fn start_item(text: &[u8], at: usize, states: usize) -> Item
 fn propositions_item(text: &[u8], at: usize) -> Item
     requires { ⌜ at ≤ length (now text) ⌝ }
     ensures meaning { λ r. ⌜ ((go : ℕ → ℕ → Step) → propositionsItem (now (text .entry)) at go ≡ onwardValue r go) ⌝ }
-    ensures within { λ r. ⌜ PastValue (now (text .entry)) Went.Nowhere 0 5 r ⌝ }
+    ensures within { λ r. ⌜ PastValue (now (text .entry)) 0 0 5 r ⌝ }
 {
     number_in(text, token(text, at, b"AP:"), 0, 5, 18)
 }
@@ -121,7 +121,7 @@ fn acc_name(text: &[u8], at: usize) -> Went
 fn acceptance_item(text: &[u8], at: usize) -> Went
     requires { ⌜ at ≤ length (now text) ⌝ }
     ensures meaning { λ r. ⌜ ((go : ℕ → Step) → acceptanceItem (now (text .entry)) at go ≡ onward r go) ⌝ }
-    ensures within { λ r. ⌜ Past (now (text .entry)) 0 r ⌝ }
+    ensures within { λ r. ⌜ Past (now (text .entry)) 1 r ⌝ }
 {
     let item = token(text, at, b"Acceptance:");
     let sets = then_token(text, item, b"1");
@@ -136,7 +136,7 @@ fn acceptance_item(text: &[u8], at: usize) -> Went
 fn header_end(text: &[u8], at: usize, propositions: usize) -> Went
     requires { ⌜ at ≤ length (now text) ⌝ }
     ensures meaning { λ r. ⌜ ((go : ℕ → Step) → headerEnd propositions (now (text .entry)) at go ≡ onward r go) ⌝ }
-    ensures within { λ r. ⌜ Past (now (text .entry)) 0 r ⌝ }
+    ensures within { λ r. ⌜ Past (now (text .entry)) 1 r ⌝ }
 {
     let Went::Behind(named) = names(text, at, propositions) else {
         return Went::Nowhere;

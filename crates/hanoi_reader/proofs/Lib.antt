@@ -1,0 +1,3 @@
+-- Laws of the reader.
+pub mod ItemLaws
+pub mod HeaderLaws

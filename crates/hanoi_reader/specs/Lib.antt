@@ -1,0 +1,3 @@
+-- How the code holds a reading.
+pub mod Items
+pub mod Taking

@@ -1,0 +1,116 @@
+-- How the code holds a reading: the header apart from the automaton's two sets of bytes, the states that are declared as a set of bytes, the state declared last
+-- as a number, and no description at all. `Reading` of the crate `hanoi` says what a step is, and `Meaning` what automaton a description has. Only contracts
+-- of the reader name these.
+--   headOf h s          the head with the header h and the accepting states s
+--   headedBy h          the description of the header h alone
+--   InRanges h          the header's values are in their ranges
+--   startStep x         what the header comes to, as a step of the reading
+--   PastHeader s x      a header that is read is in its ranges, and ends in the text s or at its end
+--   Headed s h j        the header of s is h, and the body begins at place j
+--   fromStart, fromPropositions   the header from an item on
+--   declaration s i q D   the declaration of state q, whose number ends at place i
+--   withMask t q m r n a  the bytes t with the transitions from q to r on those of the n letters from a on whose bit is set in m
+--   latestState xs      the state that was declared last; 32 where there is none
+--   Held D h l d A      the code holds the description D: by the header h, the latest state l, the declared states d and the automaton A
+--   Advanced s i h l x j d A   the step x goes on at place j, behind place i, with a description that the code holds
+--   Taken s i h l D x d A p    the step x, which began at place i with the description D, came to p and left d and A
+--   describedBefore s   what the text describes before its end or its first fault
+--   refusalOf r         the refusal's number; 0 where there is none
+-- Shown by `held-starts`, `reading-advances`, `reading-ends` and `reading-stops`: how a reading goes on after a step. Assumes nothing.
+use mathlib.Core.Path.{_≡_}
+use mathlib.Core.Bool.{Bool, true, false, not}
+use mathlib.Core.List.{List, [], _∷_}
+use Prim.Native.Nat.{ℕ, zero, suc, _^_, _≤_, _<_}
+use lib.ListN.{length}
+use Rattle.automaton.specs.declared.Automaton.{Automaton}
+use Rattle.automaton.specs.declared.Head.{Head}
+use Rattle.automaton.specs.Sets.{bit, member}
+use Rattle.automaton.specs.Automata.{maxStates, wholeOf}
+use Rattle.automaton.specs.Members.{withBitFor}
+use Rattle.hanoi.specs.Descriptions.{Part, declared, edge, Described, headed, with-part}
+use Rattle.hanoi.specs.Reading.{maxPropositions, Read, refused, describes, Step, over, next, check, startItem, propositionsItem, headerEnd, header, isDeclared, acceptance, partAt}
+use Rattle.hanoi.specs.Meaning.{automatonOf, WellFormed}
+use Rattle.hanoi_reader.specs.declared.Header.{Header}
+use Rattle.hanoi_reader.specs.declared.Start.{Start}
+use Rattle.hanoi_reader.specs.declared.Start.the-variants.{NoHeader, Begins}
+use Rattle.hanoi_reader.specs.declared.Progress.{Progress}
+use Rattle.hanoi_reader.specs.declared.Progress.the-variants.{Refused, Whole, Declared, Goes}
+
+abbrev pub headOf : Header → List ℕ → Head
+headOf h s = record { states = h .states; letters = 2 ^ (h .propositions); initial = h .start; accepting = s }
+
+abbrev pub headedBy : Header → Described
+headedBy h = headed (h .states) (h .start) (h .propositions)
+
+abbrev pub InRanges : Header → Type 0
+InRanges h = (1 ≤ h .states) × (h .states ≤ maxStates) × (h .start < h .states) × (h .propositions ≤ maxPropositions)
+
+abbrev pub startStep : Start → Step
+startStep (NoHeader n) = over (refused n)
+startStep (Begins h j) = next j (headedBy h)
+
+unfoldable pub PastHeader : List ℕ → Start → Type 0
+PastHeader s (NoHeader n) = Unit {0}
+PastHeader s (Begins h j) = InRanges h × (1 ≤ j) × (j ≤ length s)
+
+pub record Headed (s : List ℕ) (h : Header) (j : ℕ) : Type 0 where
+  pub step : startStep (Begins h j) ≡ header s
+  pub in-ranges : InRanges h
+  pub behind : 1 ≤ j
+  pub within : j ≤ length s
+
+abbrev pub fromPropositions : List ℕ → ℕ → ℕ → ℕ → Step
+fromPropositions s n q i = propositionsItem s i (λ k i. headerEnd k s i (λ i. next i (headed n q k)))
+
+abbrev pub fromStart : List ℕ → ℕ → ℕ → Step
+fromStart s n i = startItem n s i (λ q i. fromPropositions s n q i)
+
+abbrev pub declaration : List ℕ → ℕ → ℕ → Described → Step
+declaration s i q D =
+    check (not (isDeclared q (D .parts))) 17 (acceptance s i (λ b k. next k (with-part (declared q b) D)))
+
+unfoldable pub withMask : List ℕ → ℕ → ℕ → ℕ → ℕ → ℕ → List ℕ
+withMask t q m r zero a = t
+withMask t q m r (suc n) a =
+    elim (bit m a) [ true ↦ withMask (withBitFor t q a r) q m r n (suc a) | false ↦ withMask t q m r n (suc a) ]
+
+abbrev pub latestState : List Part → ℕ
+latestState [] = maxStates
+latestState (declared q b ∷ xs) = q
+latestState (edge q L r ∷ xs) = q
+
+pub record Held (D : Described) (h : Header) (l : ℕ) (d : List ℕ) (A : Automaton) : Type 0 where
+  pub well-formed : WellFormed D
+  pub states : D .states ≡ h .states
+  pub propositions : D .propositions ≡ h .propositions
+  pub automaton : A ≡ automatonOf D
+  pub size : length d ≡ 4
+  pub declares : (q : ℕ) → q < maxStates → member d q ≡ isDeclared q (D .parts)
+  pub latest : latestState (D .parts) ≡ l
+
+pub record Advanced (s : List ℕ) (i : ℕ) (h : Header) (l : ℕ) (x : Step) (j : ℕ) (d : List ℕ) (A : Automaton) : Type 0 where
+  pub description : Described
+  pub step : x ≡ next j description
+  pub held : Held description h l d A
+  pub forward : i < j
+  pub within : j ≤ length s
+
+unfoldable pub Taken : List ℕ → ℕ → Header → ℕ → Described → Step → List ℕ → Automaton → Progress → Type 0
+Taken s i h l D x d A (Refused n) = (x ≡ over (refused n)) × (A ≡ automatonOf D)
+Taken s i h l D x d A Whole = (x ≡ over (describes D)) × (A ≡ automatonOf D)
+Taken s i h l D x d A (Declared q j) = Advanced s i h q x j d A
+Taken s i h l D x d A (Goes j) = Advanced s i h l x j d A
+
+-- the description after the step x and the parts past it, at most n of them, with D before the step
+unfoldable pub describedPast : ℕ → List ℕ → Step → Described → Described
+describedPast zero s (over r) D = D
+describedPast zero s (next i E) D = E
+describedPast (suc n) s (over r) D = D
+describedPast (suc n) s (next i E) D = describedPast n s (partAt s i E) E
+
+unfoldable pub describedBefore : List ℕ → Described
+describedBefore s = describedPast (length s) s (header s) (headed 0 0 0)
+
+abbrev pub refusalOf : Read → ℕ
+refusalOf (refused n) = n
+refusalOf (describes D) = 0

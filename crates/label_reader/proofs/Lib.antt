@@ -1,0 +1,3 @@
+-- Laws of the label reader.
+pub mod ReadTruths
+pub mod CycleSteps
