@@ -52,14 +52,14 @@ whole-file = hanoi-grammar whole wholeSays .0 refl
 -- texts with a fault, and its number
 abbrev faulty : List (List ℕ × ℕ)
 faulty =
-    (states ++ text ((0x33 ∷ []) ∷ (0x33 ∷ []) ∷ []), 3)  -- HOA:v1 States:33
-    ∷ (states ++ text (nine ∷ nine ∷ Start ∷ []), 3)  -- HOA:v1 States:99Start:
+    (states ++ text ((0x33 ∷ []) ∷ (0x33 ∷ []) ∷ Start ∷ []), 3)  -- HOA:v1 States:33Start:
     ∷ (states ++ text (nine ∷ Start ∷ []), 17)  -- HOA:v1 States:9Start:
     ∷ (states ++ text (zeroWord ∷ nine ∷ nine ∷ []), 17)  -- HOA:v1 States:099
     ∷ (states ++ text (one ∷ blank ∷ Start ∷ one ∷ []), 3)  -- HOA:v1 States:1 Start:1
     ∷ (propositions ++ nine, 18)  -- HOA:v1 States:1 Start:0 AP:9
     ∷ (opening ++ text (leftBracket ∷ zeroWord ∷ rightBracket ∷ zeroWord ∷ END ∷ []), 17)  -- ..[0]0--END--
     ∷ (opening ++ text (State ∷ zeroWord ∷ blank ∷ State ∷ zeroWord ∷ END ∷ []), 17)  -- ..State:0 State:0--END--
+    ∷ (opening ++ text (State ∷ nine ∷ leftBrace ∷ []), 4)  -- ..State:9{
     ∷ (opening ++ text (State ∷ zeroWord ∷ leftBracket ∷ zeroWord ∷ rightBracket ∷ nine ∷ State ∷ []), 4)  -- ..State:0[0]9State:
     ∷ (opening ++ text (State ∷ zeroWord ∷ leftBracket ∷ nine ∷ rightBracket ∷ nine ∷ END ∷ []), 17)  -- ..State:0[9]9--END--
     ∷ (opening ++ text (END ∷ zeroWord ∷ []), 17)  -- ..--END--0

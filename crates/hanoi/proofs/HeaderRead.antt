@@ -12,7 +12,7 @@ use Rattle.hanoi.specs.Reading.{maxPropositions, refused, Step, over, ne
 use Rattle.hanoi.specs.Grammar.{statesWords, acceptanceWords, HasStates, has-states, HasStart, has-start, HasPropositions, has-propositions, HasNames, has-names, IsHeader, header-stands}
 use Rattle.hanoi.specs.Faults.{HeaderFault, no-states, states-outside, no-start, start-outside, no-propositions, many-propositions, no-names, other-name, no-acceptance}
 use Rattle.hanoi.proofs.Cases.{expectAll}
-use Rattle.hanoi.proofs.Says.{in-range, range-test}
+use Rattle.hanoi.proofs.Says.{states-in-range, in-range-states}
 use Rattle.hanoi.proofs.TokensRead.{expect-refused, words-read, words-refused, numbered-read, numbered-refused, check-read, check-refused, names-read, names-refused, named-on, named-read}
 
 abbrev afterNames : List ℕ → ℕ → ℕ → ℕ → ℕ → Step
@@ -29,16 +29,16 @@ header-items : (s : List ℕ)
 unfolding header expectAll
 header-items s = refl
 
-not-in-range : (n : ℕ) → ((1 ≤ n) × (n ≤ maxStates) → ⊥) → (leb 1 n && leb n maxStates) ≡ false
-not-in-range n h = by (leb 1 n && leb n maxStates) refl
+states-not-in-range : (n : ℕ) → ((1 ≤ n) × (n ≤ maxStates) → ⊥) → (leb 1 n && leb n maxStates) ≡ false
+states-not-in-range n h = by (leb 1 n && leb n maxStates) refl
   where
     by : (b : Bool) → (leb 1 n && leb n maxStates) ≡ b → b ≡ false
-    by true e = absurd (h (in-range n e))
+    by true e = absurd (h (states-in-range n e))
     by false e = refl
 
 module _ {s : List ℕ} where
   states-read : {n j : ℕ} → HasStates s n j → header s ≡ afterStates s n j
-  states-read {n = n} (has-states x a b) = header-items s ∙ numbered-read _ x ∙ check-read _ _ _ (range-test n a b)
+  states-read {n = n} (has-states x a b) = header-items s ∙ numbered-read _ x ∙ check-read _ _ _ (in-range-states n a b)
 
   start-read : {n q j : ℕ} → HasStart s n q j → header s ≡ afterStart s n q j
   start-read {n = n} {q = q} (has-start h x a) = states-read h ∙ numbered-read _ x ∙ check-read _ _ _ (lt-ltb q n a)
@@ -54,7 +54,7 @@ module _ {s : List ℕ} where
 
   pub header-refused : {n : ℕ} → HeaderFault s n → header s ≡ over (refused n)
   header-refused (no-states x) = header-items s ∙ numbered-refused _ x
-  header-refused (states-outside {n = n} x a) = header-items s ∙ numbered-read _ x ∙ check-refused _ _ _ (not-in-range n a)
+  header-refused (states-outside {n = n} x a) = header-items s ∙ numbered-read _ x ∙ check-refused _ _ _ (states-not-in-range n a)
   header-refused (no-start h x) = states-read h ∙ numbered-refused _ x
   header-refused (start-outside {n = n} {q = q} h x a) = states-read h ∙ numbered-read _ x ∙ check-refused _ _ _ (le-ltb q n a)
   header-refused (no-propositions h x) = start-read h ∙ numbered-refused _ x

@@ -1,4 +1,4 @@
--- Laws.
+-- Laws of Hanoi texts: the reader is decided by the grammar and the faults, the automaton is the one that is described, and what the call answers.
 pub mod ReadSteps
 pub mod Forward
 pub mod Cases
@@ -7,6 +7,7 @@ pub mod TokensRead
 pub mod HeaderRead
 pub mod PartRead
 pub mod Decided
+pub mod Computed
 pub mod InBytes
 pub mod EdgeLetters
 pub mod Described
@@ -14,4 +15,3 @@ pub mod WellFormed
 pub mod HanoiCases
 pub mod HanoiTable
 pub mod HanoiTheorem
-pub mod Computed

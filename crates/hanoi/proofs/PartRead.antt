@@ -1,6 +1,6 @@
 -- A part or an end that goes by the grammar is read, and a fault there is answered with its number: the first token tells which of the three stands, and
 -- then its tests follow. Assumes nothing.
-use mathlib.Core.Path.{_≡_, refl, sym, ap, subst, _∙_}
+use mathlib.Core.Path.{_≡_, refl, sym, ap, _∙_}
 use mathlib.Core.Bool.{Bool, true, false, not}
 use mathlib.Core.List.{List, [], _∷_}
 use Prim.Native.Nat.{ℕ, _≤_, _<_}
@@ -9,7 +9,7 @@ use lib.Dec.{ltb}
 use lib.ListN.{length}
 use borrow.Author.Tests.{eq-eqb, ne-eqb, lt-ltb, le-ltb}
 use Rattle.tokens.specs.Tokens.{skip, stands, behind}
-use Rattle.tokens.specs.Lexical.{IsToken, IsNumber}
+use Rattle.tokens.specs.Lexical.{IsToken}
 use Rattle.tokens.proofs.Runs.{white-run}
 use Rattle.tokens.proofs.LexicalLaws.{token-stands, token-behind, no-token-stands}
 use Rattle.labels.specs.Labels.{Label}
@@ -19,12 +19,13 @@ use Rattle.labels.proofs.Complete.{label-grammar}
 use Rattle.hanoi.specs.Words.{zeroWord, END, State, leftBrace, rightBrace, leftBracket, rightBracket}
 use Rattle.hanoi.specs.Descriptions.{Part, declared, edge, Described, with-part}
 use Rattle.hanoi.specs.Reading.{refused, describes, Step, over, next, outside, expect, expectNumber, check, acceptance, isDeclared, stateAt, edgeAt, edgeOf, endAt, partAt}
-use Rattle.hanoi.specs.Grammar.{no-word, word, Numbered, numbered, Marked, accepting, rejecting, Latest, of-state, of-edge, Declares, IsPart, state-part, edge-part, IsEnd, is-end}
+use Rattle.hanoi.specs.Grammar.{word, Numbered, Marked, accepting, rejecting, Latest, of-state, of-edge, Declares, IsPart, state-part, edge-part, IsEnd, is-end}
 use Rattle.hanoi.specs.Faults.{PartFault, no-part, more-text, no-state, state-outside, state-again, no-mark, edge-first, no-label, no-target, target-outside}
+use Rattle.hanoi.proofs.ReadSteps.{edge-first-step, edge-state-step, edge-again-step}
 use Rattle.hanoi.proofs.Forward.{stands-one, stands-past}
 use Rattle.hanoi.proofs.Cases.{expectAll}
 use Rattle.hanoi.proofs.Says.{declared-iff, label-read}
-use Rattle.hanoi.proofs.TokensRead.{expect-read, expect-refused, words-read, words-refused, number-read, number-refused, check-read, check-refused}
+use Rattle.hanoi.proofs.TokensRead.{one-numbered, expect-read, expect-refused, words-read, words-refused, number-read, number-refused, check-read, check-refused}
 
 undeclared : {q : ℕ} {xs : List Part} → (Declares q xs → ⊥) → isDeclared q xs ≡ false
 undeclared {q = q} {xs = xs} n = by (isDeclared q xs) refl
@@ -97,7 +98,7 @@ module _ (s : List ℕ) (D : Described) where
   state-read : {i q j : ℕ} → Numbered s (State ∷ []) i q j
       → partAt s i D ≡ check (ltb q (D .states)) 4 (check (not (isDeclared q (D .parts))) 17 (acceptance s j (λ b k. next k (with-part (declared q b) D))))
   unfolding stateAt
-  state-read {q = q} {j = j} (numbered (word x (no-word p)) n) = at-state x ∙ number-read _ (subst (λ (a : ℕ). IsNumber s a q j) (sym p) n)
+  state-read {i = i} {q = q} {j = j} x = let y = one-numbered x in at-state (y .1) ∙ number-read _ (y .2)
 
   state-in-range : {i q j : ℕ} → Numbered s (State ∷ []) i q j → q < D .states
       → partAt s i D ≡ check (not (isDeclared q (D .parts))) 17 (acceptance s j (λ b k. next k (with-part (declared q b) D)))
@@ -115,12 +116,11 @@ module _ (s : List ℕ) (D : Described) where
 
   marked-read : {i : ℕ} {b : Bool} {j : ℕ} (go : Bool → ℕ → Step) → Marked s i b j → acceptance s i go ≡ go b j
   marked-read go (accepting (word x y)) = marked-on go x ∙ words-read (go true) y
-  marked-read {i = i} go (rejecting n p) = marked-by i go false (no-token-stands leftBrace s i n) ∙ ap (go false) p
+  marked-read go (rejecting {i = i} n p) = marked-by i go false (no-token-stands leftBrace s i n) ∙ ap (go false) p
 
   latest-read : (i : ℕ) {q : ℕ} {xs : List Part} → Latest q xs → edgeOf s i xs D ≡ edgeAt s i q D
-  unfolding edgeOf
-  latest-read i of-state = refl
-  latest-read i of-edge = refl
+  latest-read i {q = q} (of-state {b = b} {xs = xs}) = edge-state-step s i D q b xs
+  latest-read i {q = q} (of-edge {L = L} {r = r} {xs = xs}) = edge-again-step s i D q L r xs
 
   -- an edge's label is read, with its `]`; its target follows
   edge-read : {i a q : ℕ} {L : Label} {j l : ℕ} → IsToken leftBracket s i a → Latest q (D .parts) → IsLabel s (D .propositions) a L j
@@ -151,15 +151,14 @@ module _ (s : List ℕ) (D : Described) where
   -- an edge's target is read; its test follows
   target-read : {i a q : ℕ} {L : Label} {j r l : ℕ} → IsToken leftBracket s i a → Latest q (D .parts) → IsLabel s (D .propositions) a L j
       → Numbered s (rightBracket ∷ []) j r l → partAt s i D ≡ check (ltb r (D .states)) 4 (next l (with-part (edge q L r) D))
-  target-read {r = r} {l = l} x o d (numbered (word y (no-word p)) n) =
-      edge-read x o d y ∙ number-read _ (subst (λ (a : ℕ). IsNumber s a r l) (sym p) n)
+  target-read {i = i} x o d z = let y = one-numbered z in edge-read x o d (y .1) ∙ number-read _ (y .2)
 
   pub part-read : {i : ℕ} {x : Part} {j : ℕ} → IsPart s D i x j → partAt s i D ≡ next j (with-part x D)
   part-read (state-part x h d m) = state-in-range x h ∙ check-read _ _ _ (ap not (undeclared d)) ∙ marked-read _ m
   part-read (edge-part {r = r} x o d y h) = target-read x o d y ∙ check-read _ _ _ (lt-ltb r (D .states) h)
 
   pub part-refused : {i n : ℕ} → PartFault s D i n → partAt s i D ≡ over (refused n)
-  unfolding endAt stateAt edgeOf
+  unfolding endAt stateAt
   part-refused {i = i} (no-part x y z) =
       part-by i false false false (no-token-stands END s i x) (no-token-stands State s i y) (no-token-stands leftBracket s i z)
   part-refused (more-text {a = a} x n) =
@@ -167,10 +166,10 @@ module _ (s : List ℕ) (D : Described) where
       ∙ ap (λ (b : Bool). elim b [ true ↦ over (describes D) | false ↦ outside ])
       (ne-eqb (skip s a) (length s) (λ e. n (white-run s a (length s) .1 (sym e))))
   part-refused (no-state {a = a} x n) = at-state x ∙ number-refused s a _ n
-  part-refused (state-outside {q = q} x h) = state-read x ∙ check-refused _ _ _ (le-ltb q (D .states) h)
+  part-refused {i = i} (state-outside {q = q} x h) = state-read x ∙ check-refused _ _ _ (le-ltb q (D .states) h)
   part-refused (state-again x h d) = state-in-range x h ∙ check-refused _ _ _ (ap not (declared-iff _ (D .parts) .1 d))
   part-refused (no-mark x h d y m) = state-in-range x h ∙ check-read _ _ _ (ap not (undeclared d)) ∙ marked-on _ y ∙ words-refused _ m
-  part-refused (edge-first {a = a} x p) = at-edge x ∙ ap (λ (xs : List Part). edgeOf s a xs D) p
+  part-refused (edge-first {a = a} x p) = at-edge x ∙ ap (λ (xs : List Part). edgeOf s a xs D) p ∙ edge-first-step s a D
   part-refused (no-label x o n) = edge-refused x o n
   part-refused (no-target {l = l} x o d y n) = edge-read x o d y ∙ number-refused s l _ n
-  part-refused (target-outside {r = r} x o d y h) = target-read x o d y ∙ check-refused _ _ _ (le-ltb r (D .states) h)
+  part-refused {i = i} (target-outside {r = r} x o d y h) = target-read x o d y ∙ check-refused _ _ _ (le-ltb r (D .states) h)

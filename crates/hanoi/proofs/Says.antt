@@ -31,26 +31,26 @@ use Rattle.hanoi.proofs.Cases.{expectAll, words-case, number-case, numb
 
 -- The header.
 
-abbrev HeaderRead : List ℕ → Read → Type 0
-HeaderRead s (refused n) = HeaderFault s n
-HeaderRead s (describes D) = ⊥
+abbrev HeaderOver : List ℕ → Read → Type 0
+HeaderOver s (refused n) = HeaderFault s n
+HeaderOver s (describes D) = ⊥
 
 abbrev HeaderSays : List ℕ → Step → Type 0
-HeaderSays s (over r) = HeaderRead s r
+HeaderSays s (over r) = HeaderOver s r
 HeaderSays s (next i D) = IsHeader s D i
 
-pub in-range : (n : ℕ) → (leb 1 n && leb n maxStates) ≡ true → (1 ≤ n) × (n ≤ maxStates)
-in-range n e = (leb-true 1 n (and-left (leb 1 n) (leb n maxStates) e), leb-true n maxStates (and-right (leb 1 n) (leb n maxStates) e))
+pub states-in-range : (n : ℕ) → (leb 1 n && leb n maxStates) ≡ true → (1 ≤ n) × (n ≤ maxStates)
+states-in-range n e = (leb-true 1 n (and-left (leb 1 n) (leb n maxStates) e), leb-true n maxStates (and-right (leb 1 n) (leb n maxStates) e))
 
-pub range-test : (n : ℕ) → 1 ≤ n → n ≤ maxStates → (leb 1 n && leb n maxStates) ≡ true
-range-test n a b = ap (λ (x : Bool). x && leb n maxStates) (le-leb 1 n a) ∙ le-leb n maxStates b
+pub in-range-states : (n : ℕ) → 1 ≤ n → n ≤ maxStates → (leb 1 n && leb n maxStates) ≡ true
+in-range-states n a b = ap (λ (x : Bool). x && leb n maxStates) (le-leb 1 n a) ∙ le-leb n maxStates b
 
 header-says : (s : List ℕ) → HeaderSays s (header s)
 unfolding header expectAll
 header-says s =
     let P = HeaderSays s in
     numbered-case P s statesWords 0 _ (λ n i x. check-case P s (leb 1 n && leb n maxStates) 3 _ (λ a.
-    let hn = has-states x (in-range n a .0) (in-range n a .1) in
+    let hn = has-states x (states-in-range n a .0) (states-in-range n a .1) in
     numbered-case P s (Start ∷ []) i _ (λ q j y. check-case P s (ltb q n) 3 _ (λ b.
     let hq = has-start hn y (ltb-true q n b) in
     numbered-case P s (AP ∷ []) j _ (λ k l z. check-case P s (leb k maxPropositions) 18 _ (λ c.
@@ -61,7 +61,7 @@ header-says s =
     (λ u. no-names hk u))
     (λ c. many-propositions hq z (leb-false k maxPropositions c))) (λ z. no-propositions hq z))
     (λ b. start-outside hn y (ltb-false q n b))) (λ y. no-start hn y))
-    (λ a. states-outside x (λ h. clash (range-test n (h .0) (h .1)) a))) (λ x. no-states x)
+    (λ a. states-outside x (λ h. clash (in-range-states n (h .0) (h .1)) a))) (λ x. no-states x)
 
 pub header-next : (s : List ℕ) (i : ℕ) (D : Described) → header s ≡ next i D → IsHeader s D i
 header-next s i D e = subst (HeaderSays s) e (header-says s)
@@ -95,12 +95,12 @@ declared-iff q xs = (declared-declares q xs, declares-declared)
 pub data NextPart (s : List ℕ) (D : Described) (i j : ℕ) (E : Described) : Type 0 where
   next-part : {x : Part} → IsPart s D i x j → E ≡ with-part x D → NextPart s D i j E
 
-abbrev PartRead : List ℕ → Described → ℕ → Read → Type 0
-PartRead s D i (refused n) = PartFault s D i n
-PartRead s D i (describes E) = IsEnd s i × (D ≡ E)
+abbrev PartOver : List ℕ → Described → ℕ → Read → Type 0
+PartOver s D i (refused n) = PartFault s D i n
+PartOver s D i (describes E) = IsEnd s i × (D ≡ E)
 
 abbrev PartSays : List ℕ → Described → ℕ → Step → Type 0
-PartSays s D i (over r) = PartRead s D i r
+PartSays s D i (over r) = PartOver s D i r
 PartSays s D i (next j E) = NextPart s D i j E
 
 -- a label with its `]` is read as the grammar has it

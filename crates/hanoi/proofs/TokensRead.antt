@@ -1,8 +1,8 @@
 -- Tokens, numbers and names that stand are read, and where one does not stand the refusal is 17: an equation of the reader for each rule and each fault.
 -- What stands decides the reader's test. Assumes nothing.
-use mathlib.Core.Path.{_≡_, refl, sym, ap, _∙_}
+use mathlib.Core.Path.{_≡_, refl, sym, ap, subst, _∙_}
 use mathlib.Core.Bool.{Bool, true, false}
-use mathlib.Core.List.{List}
+use mathlib.Core.List.{List, [], _∷_}
 use Prim.Native.Nat.{ℕ, suc, _+_}
 use lib.Dec.{eqb}
 use lib.ListN.{getD}
@@ -52,6 +52,10 @@ pub numbered-refused : {s : List ℕ} {ws : List (List ℕ)} {i : ℕ} (go : ℕ
     → expectAll ws s i (λ a. expectNumber s a go) ≡ outside
 numbered-refused {s = s} go (no-words x) = words-refused (λ a. expectNumber s a go) x
 numbered-refused {s = s} go (no-number {a = a} x e) = words-read (λ a. expectNumber s a go) x ∙ number-refused s a go e
+
+-- the token and the number behind it
+pub one-numbered : {s w : List ℕ} {i v j : ℕ} → Numbered s (w ∷ []) i v j → (a : ℕ) × IsToken w s i a × IsNumber s a v j
+one-numbered {s = s} {v = v} {j = j} (numbered (word {a = a} x (no-word p)) n) = (a, x, subst (λ (b : ℕ). IsNumber s b v j) (sym p) n)
 
 pub check-read : (b : Bool) (n : ℕ) (x : Step) → b ≡ true → check b n x ≡ x
 unfolding check

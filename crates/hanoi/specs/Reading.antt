@@ -100,8 +100,8 @@ isDeclared q (edge p L r ∷ xs) = isDeclared q xs
 unfoldable pub acceptance : List ℕ → ℕ → (Bool → ℕ → Step) → Step
 acceptance s i go =
     elim (stands leftBrace s i) [
-      true ↦ expect zeroWord s (behind leftBrace s i) (λ j. expect rightBrace s j (go true))
-    | false ↦ go false i
+      | true ↦ expect zeroWord s (behind leftBrace s i) (λ j. expect rightBrace s j (go true))
+      | false ↦ go false i
     ]
 
 -- behind `State:`; a second declaration is outside the subset
@@ -114,8 +114,8 @@ stateAt s i D =
 unfoldable pub edgeAt : List ℕ → ℕ → ℕ → Described → Step
 edgeAt s i q D =
     elim (labelAt s (D .propositions) i) [
-      absent ↦ outside
-    | found L j ↦ expect rightBracket s j (λ k. expectNumber s k (λ r l. check (ltb r (D .states)) 4 (next l (with-part (edge q L r) D))))
+      | absent ↦ outside
+      | found L j ↦ expect rightBracket s j (λ k. expectNumber s k (λ r l. check (ltb r (D .states)) 4 (next l (with-part (edge q L r) D))))
     ]
 
 -- an edge belongs to the state declared last before it
@@ -131,10 +131,10 @@ endAt s i D = elim (eqb (skip s i) (length s)) [ true ↦ over (describes D) | f
 unfoldable pub partAt : List ℕ → ℕ → Described → Step
 partAt s i D =
     elim (stands END s i) [
-      true ↦ endAt s (behind END s i) D
-    | false ↦ elim (stands State s i) [
-        true ↦ stateAt s (behind State s i) D
-      | false ↦ elim (stands leftBracket s i) [ true ↦ edgeOf s (behind leftBracket s i) (D .parts) D | false ↦ outside ]
+      | true ↦ endAt s (behind END s i) D
+      | false ↦ elim (stands State s i) [
+        | true ↦ stateAt s (behind State s i) D
+        | false ↦ elim (stands leftBracket s i) [ true ↦ edgeOf s (behind leftBracket s i) (D .parts) D | false ↦ outside ]
       ]
     ]
 

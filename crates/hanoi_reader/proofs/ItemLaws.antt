@@ -156,8 +156,8 @@ pub name-onward : (k : ℕ) (s : List ℕ) (i : ℕ) (go : ℕ → Step) → nam
 unfolding names onward nameFrom
 name-onward k s i go =
     token-onward quote s i (λ j. elim (eqb (getD s (j + nameBytes (drop j s)) 0) 0x22) [
-      true ↦ names k s (j + nameBytes (drop j s) + 1) go
-    | false ↦ outside
+      | true ↦ names k s (j + nameBytes (drop j s) + 1) go
+      | false ↦ outside
     ]) ∙ by (tokenAt quote s i)
   where
     closes : (j : ℕ) (b : Bool) → elim b [ true ↦ names k s (j + 1) go | false ↦ outside ]

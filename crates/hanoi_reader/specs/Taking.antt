@@ -9,13 +9,14 @@
 --   Headed s h j        the header of s is h, and the body begins at place j
 --   fromStart, fromPropositions   the header from an item on
 --   declaration s i q D   the declaration of state q, whose number ends at place i
---   withMask t q m r n a  the bytes t with the transitions from q to r on those of the n letters from a on whose bit is set in m
+--   withLetter t q m r a  the bytes t with the transition from q on letter a to r, if bit a is set in m
+--   withMask t q m r n a  the same for the n letters from a on
 --   latestState xs      the state that was declared last; 32 where there is none
 --   Held D h l d A      the code holds the description D: by the header h, the latest state l, the declared states d and the automaton A
 --   Advanced s i h l x j d A   the step x goes on at place j, behind place i, with a description that the code holds
 --   Taken s i h l D x d A p    the step x, which began at place i with the description D, came to p and left d and A
 --   describedBefore s   what the text describes before its end or its first fault
---   refusalOf r         the refusal's number; 0 where there is none
+--   ReadTo s r m A      reading s comes to r: by the refusal's number m, or 0, and the automaton A of what was read
 -- Shown by `held-starts`, `reading-advances`, `reading-ends` and `reading-stops`: how a reading goes on after a step. Assumes nothing.
 use mathlib.Core.Path.{_≡_}
 use mathlib.Core.Bool.{Bool, true, false, not}
@@ -29,7 +30,7 @@ use Rattle.automaton.specs.Automata.{maxStates, wholeOf}
 use Rattle.automaton.specs.Members.{withBitFor}
 use Rattle.hanoi.specs.Descriptions.{Part, declared, edge, Described, headed, with-part}
 use Rattle.hanoi.specs.Reading.{maxPropositions, Read, refused, describes, Step, over, next, check, startItem, propositionsItem, headerEnd, header, isDeclared, acceptance, partAt}
-use Rattle.hanoi.specs.Meaning.{automatonOf, WellFormed}
+use Rattle.hanoi.specs.Meaning.{automatonOf}
 use Rattle.hanoi_reader.specs.declared.Header.{Header}
 use Rattle.hanoi_reader.specs.declared.Start.{Start}
 use Rattle.hanoi_reader.specs.declared.Start.the-variants.{NoHeader, Begins}
@@ -69,10 +70,12 @@ abbrev pub declaration : List ℕ → ℕ → ℕ → Described → Step
 declaration s i q D =
     check (not (isDeclared q (D .parts))) 17 (acceptance s i (λ b k. next k (with-part (declared q b) D)))
 
+abbrev pub withLetter : List ℕ → ℕ → ℕ → ℕ → ℕ → List ℕ
+withLetter t q m r a = elim (bit m a) [ true ↦ withBitFor t q a r | false ↦ t ]
+
 unfoldable pub withMask : List ℕ → ℕ → ℕ → ℕ → ℕ → ℕ → List ℕ
 withMask t q m r zero a = t
-withMask t q m r (suc n) a =
-    elim (bit m a) [ true ↦ withMask (withBitFor t q a r) q m r n (suc a) | false ↦ withMask t q m r n (suc a) ]
+withMask t q m r (suc n) a = withMask (withLetter t q m r a) q m r n (suc a)
 
 abbrev pub latestState : List Part → ℕ
 latestState [] = maxStates
@@ -80,7 +83,6 @@ latestState (declared q b ∷ xs) = q
 latestState (edge q L r ∷ xs) = q
 
 pub record Held (D : Described) (h : Header) (l : ℕ) (d : List ℕ) (A : Automaton) : Type 0 where
-  pub well-formed : WellFormed D
   pub states : D .states ≡ h .states
   pub propositions : D .propositions ≡ h .propositions
   pub automaton : A ≡ automatonOf D
@@ -111,6 +113,6 @@ describedPast (suc n) s (next i E) D = describedPast n s (partAt s i E) E
 unfoldable pub describedBefore : List ℕ → Described
 describedBefore s = describedPast (length s) s (header s) (headed 0 0 0)
 
-abbrev pub refusalOf : Read → ℕ
-refusalOf (refused n) = n
-refusalOf (describes D) = 0
+unfoldable pub ReadTo : List ℕ → Read → ℕ → Automaton → Type 0
+ReadTo s (refused n) m A = (m ≡ n) × (A ≡ automatonOf (describedBefore s))
+ReadTo s (describes D) m A = (m ≡ 0) × (A ≡ automatonOf D)

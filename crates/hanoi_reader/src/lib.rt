@@ -5,10 +5,9 @@ ghost use Prim.Native.Nat.{_≤_, _^_};
 ghost use lib.ListN.{replicate};
 ghost use Rattle.automaton.specs.Automata.{wholeOf};
 ghost use Rattle.hanoi.specs.Reading.{readHanoi};
-ghost use Rattle.hanoi.specs.Meaning.{automatonOf};
 ghost use Rattle.hanoi.specs.Hanoi.{hanoiOf};
 ghost use Rattle.hanoi.specs.HanoiDemand.{HanoiDemand1};
-ghost use Rattle.hanoi_reader.specs.Taking.{Headed, headOf, describedBefore, refusalOf};
+ghost use Rattle.hanoi_reader.specs.Taking.{Headed, headOf, ReadTo};
 use automaton::Head;
 use automaton::power;
 use file::Reading;
@@ -71,15 +70,24 @@ fn ended(refusal: usize, header: Header, accepting: [u8; 4]) -> Reading
 // Reads the body, which begins at a place: what `read` promises of the whole text.
 fn read_body(text: &[u8], body: usize, header: Header, transitions: &mut [u8; 2048]) -> Reading
     requires { ⌜ Headed (now text) header body × (now transitions ≡ replicate 2048 0) ⌝ }
-    ensures refusal { λ r. ⌜ r .refusal ≡ refusalOf (readHanoi (now (text .entry))) ⌝ }
-    ensures automaton { λ r. ⌜ wholeOf (r .head) (now (transitions .exit)) ≡ automatonOf (describedBefore (now (text .entry))) ⌝ }
+    ensures { λ r. ⌜
+        ReadTo (now (text .entry)) (readHanoi (now (text .entry))) (r .refusal) (wholeOf (r .head) (now (transitions .exit)))
+        ⌝ }
 {
     let mut declared = [0u8; 4];
     let mut accepting = [0u8; 4];
     let mut latest: usize = 32;
     let mut at = body;
     loop {
-        match parts::take_part(text, at, header, latest, &mut declared, &mut accepting, transitions) {
+        match parts::take_part(
+            text,
+            at,
+            header,
+            latest,
+            &mut declared,
+            &mut accepting,
+            transitions,
+        ) {
             Progress::Refused(number) => return ended(number, header, accepting),
             Progress::Whole => return ended(0, header, accepting),
             Progress::Declared(q, next) => {
@@ -95,8 +103,9 @@ fn read_body(text: &[u8], body: usize, header: Header, transitions: &mut [u8; 20
 // of the states and edges before the end or the first fault.
 fn read(text: &[u8], transitions: &mut [u8; 2048]) -> Reading
     requires { ⌜ now transitions ≡ replicate 2048 0 ⌝ }
-    ensures refusal { λ r. ⌜ r .refusal ≡ refusalOf (readHanoi (now (text .entry))) ⌝ }
-    ensures automaton { λ r. ⌜ wholeOf (r .head) (now (transitions .exit)) ≡ automatonOf (describedBefore (now (text .entry))) ⌝ }
+    ensures { λ r. ⌜
+        ReadTo (now (text .entry)) (readHanoi (now (text .entry))) (r .refusal) (wholeOf (r .head) (now (transitions .exit)))
+        ⌝ }
 {
     match items::read_header(text) {
         Start::NoHeader(number) => {

@@ -9,9 +9,10 @@ ghost use Rattle.automaton.specs.Automata.{wholeOf};
 ghost use Rattle.hanoi.specs.Descriptions.{Described};
 ghost use Rattle.tokens.specs.Tokens.{skip};
 ghost use Rattle.hanoi.specs.Reading.{Step, acceptance, stateAt, edgeAt, partAt};
+ghost use Rattle.hanoi.specs.Meaning.{WellFormed};
 ghost use Rattle.hanoi_reader.specs.declared.Header.{Header};
 ghost use Rattle.hanoi_reader.specs.Items.{onwardValue, PastValue};
-ghost use Rattle.hanoi_reader.specs.Taking.{InRanges, headOf, declaration, withMask, Held, Taken};
+ghost use Rattle.hanoi_reader.specs.Taking.{InRanges, headOf, declaration, withLetter, withMask, Held, Taken};
 use crate::Header;
 use crate::Item;
 use crate::Progress;
@@ -62,10 +63,10 @@ fn declare(
 ) -> Progress
     requires { ⌜ (at ≤ length (now text)) × (q < 32) ⌝ }
     ensures { λ p. ⌜
-        ((h : Header) (l : ℕ) (t : List ℕ) (D : Described) (i : ℕ) → i < at → q < h .states
+        ((h : Header) (l : ℕ) (t : List ℕ) (D : Described) (i : ℕ) → i < at
         → Held D h l (now (declared .entry)) (wholeOf (headOf h (now (accepting .entry))) t)
         → Taken (now (text .entry)) i h l D (declaration (now (text .entry)) at q D) (now (declared .exit))
-          (wholeOf (headOf h (now (accepting .exit))) t) p)
+        (wholeOf (headOf h (now (accepting .exit))) t) p)
         ⌝ }
 {
     if accepts_in(declared, q) {
@@ -96,7 +97,7 @@ fn take_state(
         ((l : ℕ) (t : List ℕ) (D : Described) (i : ℕ) → i < at
         → Held D header l (now (declared .entry)) (wholeOf (headOf header (now (accepting .entry))) t)
         → Taken (now (text .entry)) i header l D (stateAt (now (text .entry)) at D) (now (declared .exit))
-          (wholeOf (headOf header (now (accepting .exit))) t) p)
+        (wholeOf (headOf header (now (accepting .exit))) t) p)
         ⌝ }
 {
     match number_in(text, Went::Behind(at), 0, header.states, 4) {
@@ -105,16 +106,24 @@ fn take_state(
     }
 }
 
+// Adds the transition from q on letter a to r, if the letter's bit is set in the mask.
+fn add_letter(transitions: &mut [u8; 2048], q: usize, mask: usize, r: usize, a: usize)
+    requires { ⌜ (q < 32) × (r < 32) × (a < 16) ⌝ }
+    ensures { λ _. ⌜ now (transitions .exit) ≡ withLetter (now (transitions .entry)) q mask r a ⌝ }
+{
+    if (mask >> a) % 2 == 1 {
+        add_transition(transitions, q, a, r);
+    }
+}
+
 // Adds the transitions from q to r on those of the letters whose bit is set in the mask.
 fn add_letters(transitions: &mut [u8; 2048], q: usize, mask: usize, r: usize, letters: usize)
-    requires { ⌜ (q < 32) × (r < 32) × (letters ≤ 16) × (mask < 65536) ⌝ }
+    requires { ⌜ (q < 32) × (r < 32) × (letters ≤ 16) ⌝ }
     ensures { λ _. ⌜ now (transitions .exit) ≡ withMask (now (transitions .entry)) q mask r letters 0 ⌝ }
 {
     let mut a: usize = 0;
     while a < letters {
-        if (mask >> a) % 2 == 1 {
-            add_transition(transitions, q, a, r);
-        }
+        add_letter(transitions, q, mask, r, a);
         a += 1;
     }
 }
@@ -132,7 +141,7 @@ fn take_edge(
         ((d s : List ℕ) (D : Described) (i : ℕ) → i < at
         → Held D header q d (wholeOf (headOf header s) (now (transitions .entry)))
         → Taken (now (text .entry)) i header q D (edgeAt (now (text .entry)) at q D) d
-          (wholeOf (headOf header s) (now (transitions .exit))) p)
+        (wholeOf (headOf header s) (now (transitions .exit))) p)
         ⌝ }
 {
     let Truth::On(mask, behind) = label_at(text, at, header.propositions) else {
@@ -142,7 +151,13 @@ fn take_edge(
     match number_in(text, closed, 0, header.states, 4) {
         Item::Refused(number) => Progress::Refused(number),
         Item::Value(r, next) => {
-            add_letters(transitions, q, mask, r, crate::letters_of(header.propositions));
+            add_letters(
+                transitions,
+                q,
+                mask,
+                r,
+                crate::letters_of(header.propositions),
+            );
             Progress::Goes(next)
         }
     }
@@ -160,14 +175,18 @@ pub fn take_part(
 ) -> Progress
     requires { ⌜ (at ≤ length (now text)) × InRanges header ⌝ }
     ensures { λ p. ⌜
-        ((D : Described)
+        ((D : Described) → WellFormed D
         → Held D header latest (now (declared .entry)) (wholeOf (headOf header (now (accepting .entry))) (now (transitions .entry)))
         → Taken (now (text .entry)) at header latest D (partAt (now (text .entry)) at D) (now (declared .exit))
-          (wholeOf (headOf header (now (accepting .exit))) (now (transitions .exit))) p)
+        (wholeOf (headOf header (now (accepting .exit))) (now (transitions .exit))) p)
         ⌝ }
 {
     if let Went::Behind(next) = token(text, at, b"--END--") {
-        return if ends(text, next) { Progress::Whole } else { Progress::Refused(17) };
+        return if ends(text, next) {
+            Progress::Whole
+        } else {
+            Progress::Refused(17)
+        };
     }
     if let Went::Behind(next) = token(text, at, b"State:") {
         return take_state(text, next, header, declared, accepting);

@@ -134,8 +134,8 @@ module _ (s : List ℕ) (k d i : ℕ) where
       → (r ≡ answerOf (operandAt s k d i)) × Forward s i r
   paren-step z q b e l c m r h f = (
     h
-    ∙ ap answerOf (ap (λ (n : ℕ). closed s (disjunction s (operandAt s k (d - 1)) (n + 1))) e
-    ∙ sym (operand-paren s k d i z (mark-within s i q b 0x28 e c m (λ x. omega (arith, x)) .0))),
+        ∙ ap answerOf (ap (λ (n : ℕ). closed s (disjunction s (operandAt s k (d - 1)) (n + 1))) e
+        ∙ sym (operand-paren s k d i z (mark-within s i q b 0x28 e c m (λ x. omega (arith, x)) .0))),
     forward-from s i (q + 1) r (omega (arith, l)) f,
   )
 

@@ -78,8 +78,8 @@ module _ (s : List ℕ) (mark : ℕ) (join : Label → Label → Label) (operand
       stops zero = refl
       stops (suc k) =
           ap (λ (b : Bool). elim b [
-            true ↦ elim (operand (skip s j + 1)) [ absent ↦ absent | found M i ↦ more s mark join operand k (join (c .label) M) i ]
-          | false ↦ found (c .label) j
+            | true ↦ elim (operand (skip s j + 1)) [ absent ↦ absent | found M i ↦ more s mark join operand k (join (c .label) M) i ]
+            | false ↦ found (c .label) j
           ]) (ne-eqb (byteAt s (skip s j)) mark n)
 
       go : (k : ℕ) → more s mark join operand k (c .label) j ≡ whole → Reads whole m j
@@ -107,8 +107,8 @@ module _ (s : List ℕ) (mark : ℕ) (join : Label → Label → Label) (operand
             room = omega arith;
             turn =
                 sym (ap (λ (b : Bool). elim b [
-                  true ↦ elim (operand (skip s j + 1)) [ absent ↦ absent | found M i ↦ more s mark join operand k (join (c .label) M) i ]
-                | false ↦ found (c .label) j
+                  | true ↦ elim (operand (skip s j + 1)) [ absent ↦ absent | found M i ↦ more s mark join operand k (join (c .label) M) i ]
+                  | false ↦ found (c .label) j
                 ]) (eq-eqb (byteAt s (skip s j)) mark e)) ∙ o;
           }
 

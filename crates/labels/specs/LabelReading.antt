@@ -59,8 +59,8 @@ module _ (s : List ℕ) where
   more mark join operand zero L j = found L j
   more mark join operand (suc n) L j =
       elim (eqb (byteAt s (skip s j)) mark) [
-        true ↦ elim (operand (skip s j + 1)) [ absent ↦ absent | found M i ↦ more mark join operand n (join L M) i ]
-      | false ↦ found L j
+        | true ↦ elim (operand (skip s j + 1)) [ absent ↦ absent | found M i ↦ more mark join operand n (join L M) i ]
+        | false ↦ found L j
       ]
 
   -- one operand or more: each takes a byte, so there are fewer than bytes
@@ -77,10 +77,10 @@ module _ (s : List ℕ) where
   operandAt k zero i = atomAt s k (skip s i)
   operandAt k (suc d) i =
       elim (eqb (byteAt s (skip s i)) 0x21) [
-        true ↦ negated (operandAt k d (skip s i + 1))
-      | false ↦ elim (eqb (byteAt s (skip s i)) 0x28) [
-          true ↦ closed s (disjunction (λ j. operandAt k d j) (skip s i + 1))
-        | false ↦ atomAt s k (skip s i)
+        | true ↦ negated (operandAt k d (skip s i + 1))
+        | false ↦ elim (eqb (byteAt s (skip s i)) 0x28) [
+          | true ↦ closed s (disjunction (λ j. operandAt k d j) (skip s i + 1))
+          | false ↦ atomAt s k (skip s i)
         ]
       ]
 

@@ -58,8 +58,8 @@ module _ (s : List ℕ) (i j : ℕ) (e : j ≡ skip s i) where
       ap (λ (z : Bool). capped (elim z [ true ↦ elim y [ true ↦ none | false ↦ digitsAt s j ] | false ↦ none ])) (sym a)
       ∙ ap (λ (z : Bool). capped (elim (digit (byteAt s j)) [ true ↦ elim z [ true ↦ none | false ↦ digitsAt s j ] | false ↦ none ])) (sym b)
       ∙ ap (λ (n : ℕ). capped (elim (digit (byteAt s n)) [
-        true ↦ elim (eqb (byteAt s n) 0x30 && digit (byteAt s (n + 1))) [ true ↦ none | false ↦ digitsAt s n ]
-      | false ↦ none
+        | true ↦ elim (eqb (byteAt s n) 0x30 && digit (byteAt s (n + 1))) [ true ↦ none | false ↦ digitsAt s n ]
+        | false ↦ none
       ])) e
 
   pub number-missing : digit (byteAt s j) ≡ false → Missing ≡ capped (numberAt s i)

@@ -59,4 +59,3 @@ pub starts-within : (w s : List ℕ) (j : ℕ) → j ≤ length s → startsWith
 starts-within w s j h t =
     let x : j + length w < length s + 1 = lt-of-not-le (λ l. clash {X = ⊥} t (starts-short w (drop j s) (omega (arith, l, length-drop j s)))) in
     omega (arith, x)
-

@@ -75,11 +75,11 @@ unfoldable pub numberAt : List ℕ → ℕ → Number
 numberAt s i =
     let j = skip s i in
     elim (digit (byteAt s j)) [
-      true ↦ elim (eqb (byteAt s j) 0x30 && digit (byteAt s (j + 1))) [
-        true ↦ none
-      | false ↦ number (value 0 (drop j s)) (j + digits (drop j s))
+      | true ↦ elim (eqb (byteAt s j) 0x30 && digit (byteAt s (j + 1))) [
+        | true ↦ none
+        | false ↦ number (value 0 (drop j s)) (j + digits (drop j s))
       ]
-    | false ↦ none
+      | false ↦ none
     ]
 
 unfoldable pub nameBytes : List ℕ → ℕ

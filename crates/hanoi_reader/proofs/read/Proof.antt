@@ -1,37 +1,40 @@
+-- `read` meets its contract: the header decides, and the body is read from its end on. Assumes nothing.
+use mathlib.Core.Path.{sym, subst}
+use mathlib.Core.List.{List}
+use Prim.Native.Nat.{ℕ}
+use Rattle.automaton.specs.Automata.{wholeOf}
+use Rattle.hanoi_reader.specs.Taking.{ReadTo, headOf}
+use Rattle.hanoi.specs.Reading.{readHanoi}
+use Rattle.hanoi_reader.proofs.ReadLaws.{headed-at, unheaded, ended-read}
 use borrow.Author.Needs.{needs}
 use Rattle.hanoi_reader.proofs.read.Statement.{statement}
 use Rattle.hanoi_reader.proofs.read.Tie as tie
-use Rattle.hanoi_reader.proofs.read.Reads as reads
-use Rattle.hanoi_reader.proofs.read.Lts as lts
-use Rattle.hanoi_reader.proofs.ended.Reads as ended-reads
-use Rattle.hanoi_reader.proofs.items.read_header.Reads as read-header-reads
-use Rattle.hanoi_reader.proofs.read_body.Reads as read-body-reads
 
--- src/lib.rt:101:11
 read-header-requires : tie.Need-read-header-requires
 read-header-requires c κs = search needs
 
--- src/lib.rt:102:25
 enum-known-number : tie.Need-enum-known-number
 enum-known-number c = search needs
 
--- src/lib.rt:108:13
 ended-requires : tie.Need-ended-requires
 ended-requires c κs = search needs
 
--- src/lib.rt:110:23
 enum-known-header : tie.Need-enum-known-header
 enum-known-header c = search needs
 
--- src/lib.rt:110:40
 read-body-requires : tie.Need-read-body-requires
-read-body-requires c κs = ?
+read-body-requires c κs =
+    let s = c .before .before .before .before .before .before in
+    let h = c .before .before .before .before .read-header in
+    (headed-at (s .args .text .now) (h .result) _ _ (h .ensures .0) (h .ensures .1) (c .before .before .header .given .1), s .pre)
 
--- src/lib.rt:96:1
 returns : tie.Need-returns
-returns c = ?
+returns c =
+    let s = c .before .before .before .before .before .before in
+    let e = c .ended .ensures in
+    ended-read (s .args .text .now) _ _ _ (record { states = 0; start = 0; propositions = 0 }) _ _ _
+    (unheaded (s .args .text .now) (c .before .before .before .before .read-header .result) _ _ (c .before .before .before .before .read-header .ensures .0) (c .before .before .number .given .1) (s .pre)) (e .0) (e .1)
 
--- src/lib.rt:96:1
 returns-2 : tie.Need-returns-2
 returns-2 c = search needs
 

@@ -1,73 +1,106 @@
+-- `read_body` meets its contract: between two parts the code holds the description so far. Assumes nothing.
+use mathlib.Core.Path.{sym, subst}
+use mathlib.Core.List.{List}
+use Prim.Native.Nat.{ℕ, _-_}
+use native.Mathlib.Omega.{arith}
+use lib.ListN.{length, replicate}
+use borrow.Author.Needs.{needs}
+use Rattle.automaton.specs.Automata.{wholeOf}
+use Rattle.hanoi_reader.specs.Taking.{headOf}
+use Rattle.hanoi_reader.proofs.ReadLaws.{Going, going-starts, going-stops, going-ends, going-declared, going-past, ended-read}
 use Rattle.hanoi_reader.proofs.read_body.Statement.{statement}
 use Rattle.hanoi_reader.proofs.read_body.Tie as tie
-use Rattle.hanoi_reader.proofs.read_body.Reads as reads
-use Rattle.hanoi_reader.proofs.read_body.Lts as lts
-use Rattle.hanoi_reader.proofs.ended.Reads as ended-reads
-use Rattle.hanoi_reader.proofs.parts.take_part.Reads as take-part-reads
 
 abbrev Inv-loop : tie.InvT-loop
 Inv-loop text body header transitions₀ declared₀ accepting₀ latest₀ at₀ transitions declared accepting latest at =
-    ?
+    Going text header at latest declared (wholeOf (headOf header accepting) transitions)
 
 abbrev μ-loop : tie.MeasureT-loop
 μ-loop text body header transitions₀ declared₀ accepting₀ latest₀ at₀ transitions declared accepting latest at =
-    ?
+    length text - at
 
--- src/lib.rt:81:5
 loop-holds : tie.Need-loop-holds Inv-loop μ-loop
-loop-holds c = ?
+loop-holds c =
+    let s = c .before in
+    subst (λ (t : List ℕ). Going (s .args .text .now) (s .args .header) (s .args .body) 32 (replicate 4 0) (wholeOf (headOf (s .args .header) (replicate 4 0)) t)) (sym (s .pre .1))
+    (going-starts (s .args .text .now) (s .args .header) (s .args .body) (s .pre .0))
 
--- src/lib.rt:82:15
 take-part-requires : tie.Need-take-part-requires Inv-loop μ-loop
-take-part-requires c κs = ?
+take-part-requires c κs = (c .before .before .before .loop .inv .within, c .before .before .before .before .before .pre .0 .in-ranges)
 
--- src/lib.rt:83:31
 enum-known-number : tie.Need-enum-known-number Inv-loop μ-loop
-enum-known-number c = ?
+enum-known-number c = search needs
 
--- src/lib.rt:83:42
 ended-requires : tie.Need-ended-requires Inv-loop μ-loop
-ended-requires c κs = ?
+ended-requires c κs = c .before .before .before .before .before .before .before .before .before .pre .0 .in-ranges .3
 
--- src/lib.rt:83:42
 returns : tie.Need-returns Inv-loop μ-loop
-returns c = ?
+returns c =
+    let s = c .before .before .before .before .before .before .before .before .before .before .args in
+    let l = c .before .before .before .before .before .before .before .before .loop in
+    let k = c .before .before .before .before .take-part in
+    let e = c .ended .ensures in
+    ended-read (s .text .now) _ _ _ (s .header) _ _ _
+    (going-stops (s .text .now) (s .header) (l .at) (l .latest) _ _ (l .inv) _ _ _ _ (k .ensures (l .inv .description) (l .inv .well-formed) (l .inv .held))
+    (c .before .before .number .given .1)) (e .0) (e .1)
 
--- src/lib.rt:84:56
 enum-told : tie.Need-enum-told Inv-loop μ-loop
-enum-told c = ?
+enum-told c = search needs
 
--- src/lib.rt:84:32
 ended-requires-2 : tie.Need-ended-requires-2 Inv-loop μ-loop
-ended-requires-2 c κs = ?
+ended-requires-2 c κs = c .before .before .before .before .before .before .before .before .pre .0 .in-ranges .3
 
--- src/lib.rt:84:32
 returns-2 : tie.Need-returns-2 Inv-loop μ-loop
-returns-2 c = ?
+returns-2 c =
+    let s = c .before .before .before .before .before .before .before .before .before .args in
+    let l = c .before .before .before .before .before .before .before .loop in
+    let k = c .before .before .before .take-part in
+    let e = c .ended2 .ensures in
+    ended-read (s .text .now) _ _ _ (s .header) _ _ _
+    (going-ends (s .text .now) (s .header) (l .at) (l .latest) _ _ (l .inv) _ _ _ (k .ensures (l .inv .description) (l .inv .well-formed) (l .inv .held))
+    (c .before .enum-told .given .1)) (e .0) (e .1)
 
--- src/lib.rt:85:32
 enum-known-q : tie.Need-enum-known-q Inv-loop μ-loop
-enum-known-q c = ?
+enum-known-q c = search needs
 
--- src/lib.rt:81:5
 loop-less : tie.Need-loop-less Inv-loop μ-loop
-loop-less c = ?
+loop-less c =
+    let s = c .before .before .before .before .before .before .before .before .before .args in
+    let l = c .before .before .before .before .before .before .before .loop in
+    let k = c .before .before .before .take-part in
+    let g = going-declared (s .text .now) (s .header) (l .at) (l .latest) _ _ (l .inv) _ _ _ _ _ (k .ensures (l .inv .description) (l .inv .well-formed) (l .inv .held))
+    (c .before .q .given .1) in
+    omega (arith, g .1, g .2)
 
--- src/lib.rt:81:5
 loop-again : tie.Need-loop-again Inv-loop μ-loop
-loop-again c = ?
+loop-again c =
+    let s = c .before .before .before .before .before .before .before .before .before .args in
+    let l = c .before .before .before .before .before .before .before .loop in
+    let k = c .before .before .before .take-part in
+    let g = going-declared (s .text .now) (s .header) (l .at) (l .latest) _ _ (l .inv) _ _ _ _ _ (k .ensures (l .inv .description) (l .inv .well-formed) (l .inv .held))
+    (c .before .q .given .1) in
+    g .0
 
--- src/lib.rt:89:28
 enum-known-next : tie.Need-enum-known-next Inv-loop μ-loop
-enum-known-next c = ?
+enum-known-next c = search needs
 
--- src/lib.rt:81:5
 loop-less-2 : tie.Need-loop-less-2 Inv-loop μ-loop
-loop-less-2 c = ?
+loop-less-2 c =
+    let s = c .before .before .before .before .before .before .before .before .before .args in
+    let l = c .before .before .before .before .before .before .before .loop in
+    let k = c .before .before .before .take-part in
+    let g = going-past (s .text .now) (s .header) (l .at) (l .latest) _ _ (l .inv) _ _ _ _ (k .ensures (l .inv .description) (l .inv .well-formed) (l .inv .held))
+    (c .before .next .given .1) in
+    omega (arith, g .1, g .2)
 
--- src/lib.rt:81:5
 loop-again-2 : tie.Need-loop-again-2 Inv-loop μ-loop
-loop-again-2 c = ?
+loop-again-2 c =
+    let s = c .before .before .before .before .before .before .before .before .before .args in
+    let l = c .before .before .before .before .before .before .before .loop in
+    let k = c .before .before .before .take-part in
+    let g = going-past (s .text .now) (s .header) (l .at) (l .latest) _ _ (l .inv) _ _ _ _ (k .ensures (l .inv .description) (l .inv .well-formed) (l .inv .held))
+    (c .before .next .given .1) in
+    g .0
 
 pub read-body-spec : {M : Type 1} → statement M
 read-body-spec =

@@ -116,7 +116,7 @@ and-at-returns : (t : ℕ) → and-at-lts.Need-returns (
   byte-at-reads.Learnt,
 ) (and-at-at t) and-at.Post and-at-Inv-loop and-at-μ-loop
 unfolding conjunction
-and-at-returns t c = 
+and-at-returns t c =
     let s = c .before .before .before .before in
     let r = c .before .before .not-at in
     going-absent (s .args .text .now) 0x26 both (operandAt (s .args .text .now) (s .args .propositions) (s .args .depth)) (s .args .at) _ (r .ensures .0) (c .enum-told .given .1)
@@ -129,7 +129,7 @@ and-at-loop-holds : (t : ℕ) → and-at-lts.Need-loop-holds (
   byte-at-reads.Asked,
   byte-at-reads.Learnt,
 ) (and-at-at t) and-at.Post and-at-Inv-loop and-at-μ-loop
-and-at-loop-holds t c = 
+and-at-loop-holds t c =
     let s = c .before .before .before .before .before in
     let r = c .before .before .before .not-at in
     going-starts (s .args .text .now) 0x26 both (operandAt (s .args .text .now) (s .args .propositions) (s .args .depth)) (s .args .at) _ _ _ (r .ensures .0) (r .ensures .1) (c .before .first .given .1)
@@ -163,7 +163,7 @@ and-at-returns-2 : (t : ℕ) → and-at-lts.Need-returns-2 (
   byte-at-reads.Learnt,
 ) (and-at-at t) and-at.Post and-at-Inv-loop and-at-μ-loop
 unfolding conjunction
-and-at-returns-2 t c = 
+and-at-returns-2 t c =
     let s = c .before .before .before .before .before .before .before .before .before in
     let l = c .before .before .before .loop in
     let q = c .before .before .skip in
@@ -188,7 +188,7 @@ and-at-not-at-requires-2 : (t : ℕ) → and-at-lts.Need-not-at-requires-2 (
   byte-at-reads.Asked,
   byte-at-reads.Learnt,
 ) (and-at-at t) and-at.Post and-at-Inv-loop and-at-μ-loop
-and-at-not-at-requires-2 t c κs = 
+and-at-not-at-requires-2 t c κs =
     let w = mark-within (c .before .before .before .before .before .before .before .before .before .args .text .now) (c .before .before .before .loop .next) (c .before .before .skip .result) (c .before .byte-at .result) 0x26 (c .before .before .skip .ensures .0) (c .before .byte-at .ensures) (c .if1 .left) (λ e. omega (arith, e)) .1 in
     let l = c .before .before .before .loop .inv in
     (omega (arith, w, l .behind, c .before .before .skip .ensures, c .before .before .before .before .before .before .before .before .before .pre), omega (arith, w))
@@ -222,7 +222,7 @@ and-at-returns-3 : (t : ℕ) → and-at-lts.Need-returns-3 (
   byte-at-reads.Learnt,
 ) (and-at-at t) and-at.Post and-at-Inv-loop and-at-μ-loop
 unfolding conjunction
-and-at-returns-3 t c = 
+and-at-returns-3 t c =
     let s = c .before .before .before .before .before .before .before .before .before .before .before .before in
     let e = c .before .before .before in
     let r = c .before .before .not-at2 in
@@ -237,7 +237,7 @@ and-at-loop-less : (t : ℕ) → and-at-lts.Need-loop-less (
   byte-at-reads.Asked,
   byte-at-reads.Learnt,
 ) (and-at-at t) and-at.Post and-at-Inv-loop and-at-μ-loop
-and-at-loop-less t c = 
+and-at-loop-less t c =
     let s = c .before .before .before .before .before .before .before .before .before .before .before .before .before in
     let e = c .before .before .before .before in
     let r = c .before .before .before .not-at2 in
@@ -252,7 +252,7 @@ and-at-loop-again : (t : ℕ) → and-at-lts.Need-loop-again (
   byte-at-reads.Asked,
   byte-at-reads.Learnt,
 ) (and-at-at t) and-at.Post and-at-Inv-loop and-at-μ-loop
-and-at-loop-again t c = 
+and-at-loop-again t c =
     let s = c .before .before .before .before .before .before .before .before .before .before .before .before .before in
     let e = c .before .before .before .before in
     let r = c .before .before .before .not-at2 in
@@ -299,7 +299,7 @@ not-at-returns : (t : ℕ) → not-at-lts.Need-returns (
   paren-at-below t,
   paren-at.Post,
 ) (not-at-at t) not-at.Post
-not-at-returns t c = 
+not-at-returns t c =
     let s = c .before .before .before .before in
     let q = c .before .before .skip in
     let r = c .atom-at in
@@ -359,7 +359,7 @@ not-at-not-at-requires : (t : ℕ) → not-at-lts.Need-not-at-requires (
   paren-at-below t,
   paren-at.Post,
 ) (not-at-at t) not-at.Post
-not-at-not-at-requires t c κs = 
+not-at-not-at-requires t c κs =
     let w = mark-within (c .before .before .before .before .before .args .text .now) (c .before .before .before .before .before .args .at) (c .before .before .before .skip .result) (c .before .byte-at .result) 0x21 (c .before .before .before .skip .ensures .0) (c .before .byte-at .ensures) (c .if2 .taken) (λ e. omega (arith, e)) .1 in
     (omega (arith, w, c .before .before .before .skip .ensures, c .before .before .before .before .before .pre), omega (arith, w))
 
@@ -403,7 +403,7 @@ not-at-sub-t14 : (t : ℕ) → not-at-lts.Need-sub-t14 (
   paren-at-below t,
   paren-at.Post,
 ) (not-at-at t) not-at.Post
-not-at-sub-t14 t c = 
+not-at-sub-t14 t c =
     let s = c .before .before .before .before .before .before .before .before .before in
     let v = forward-on (s .args .text .now) _ _ _ _ (c .before .before .before .not-at .ensures .1) (c .before .mask .given .1) in
     omega (arith, v .2)
@@ -420,7 +420,7 @@ not-at-returns-2 : (t : ℕ) → not-at-lts.Need-returns-2 (
   paren-at-below t,
   paren-at.Post,
 ) (not-at-at t) not-at.Post
-not-at-returns-2 t c = 
+not-at-returns-2 t c =
     let s = c .before .before .before .before .before .before .before .before in
     let e = c .before .before .before in
     let r = c .before .before .not-at in
@@ -438,7 +438,7 @@ not-at-returns-3 : (t : ℕ) → not-at-lts.Need-returns-3 (
   paren-at-below t,
   paren-at.Post,
 ) (not-at-at t) not-at.Post
-not-at-returns-3 t c = 
+not-at-returns-3 t c =
     let s = c .before .before .before .before .before .before .before .before .before in
     let e = c .before .before .before .before in
     let r = c .before .before .before .not-at in
@@ -484,7 +484,7 @@ not-at-paren-at-requires : (t : ℕ) → not-at-lts.Need-paren-at-requires (
   paren-at-below t,
   paren-at.Post,
 ) (not-at-at t) not-at.Post
-not-at-paren-at-requires t c κs = 
+not-at-paren-at-requires t c κs =
     let w = mark-within (c .before .before .before .before .before .before .args .text .now) (c .before .before .before .before .before .before .args .at) (c .before .before .before .before .skip .result) (c .before .before .byte-at .result) 0x28 (c .before .before .before .before .skip .ensures .0) (c .before .before .byte-at .ensures) (c .if3 .taken) (λ e. omega (arith, e)) .1 in
     (omega (arith, w, c .before .before .before .before .skip .ensures, c .before .before .before .before .before .before .pre), omega (arith, w))
 
@@ -500,7 +500,7 @@ not-at-returns-4 : (t : ℕ) → not-at-lts.Need-returns-4 (
   paren-at-below t,
   paren-at.Post,
 ) (not-at-at t) not-at.Post
-not-at-returns-4 t c = 
+not-at-returns-4 t c =
     let s = c .before .before .before .before .before .before .before in
     let e = c .before in
     let r = c .paren-at in
@@ -532,7 +532,7 @@ not-at-returns-5 : (t : ℕ) → not-at-lts.Need-returns-5 (
   paren-at-below t,
   paren-at.Post,
 ) (not-at-at t) not-at.Post
-not-at-returns-5 t c = 
+not-at-returns-5 t c =
     let s = c .before .before .before .before .before .before .before in
     let e = c .before in
     let r = c .atom-at2 in
@@ -583,7 +583,7 @@ or-at-returns : (t : ℕ) → or-at-lts.Need-returns (
   byte-at-reads.Learnt,
 ) (or-at-at t) or-at.Post or-at-Inv-loop or-at-μ-loop
 unfolding disjunction
-or-at-returns t c = 
+or-at-returns t c =
     let s = c .before .before .before .before in
     let r = c .before .before .and-at in
     going-absent (s .args .text .now) 0x7C either (conjunction (s .args .text .now) (operandAt (s .args .text .now) (s .args .propositions) (s .args .depth))) (s .args .at) _ (r .ensures .0) (c .enum-told .given .1)
@@ -596,7 +596,7 @@ or-at-loop-holds : (t : ℕ) → or-at-lts.Need-loop-holds (
   byte-at-reads.Asked,
   byte-at-reads.Learnt,
 ) (or-at-at t) or-at.Post or-at-Inv-loop or-at-μ-loop
-or-at-loop-holds t c = 
+or-at-loop-holds t c =
     let s = c .before .before .before .before .before in
     let r = c .before .before .before .and-at in
     going-starts (s .args .text .now) 0x7C either (conjunction (s .args .text .now) (operandAt (s .args .text .now) (s .args .propositions) (s .args .depth))) (s .args .at) _ _ _ (r .ensures .0) (r .ensures .1) (c .before .first .given .1)
@@ -630,7 +630,7 @@ or-at-returns-2 : (t : ℕ) → or-at-lts.Need-returns-2 (
   byte-at-reads.Learnt,
 ) (or-at-at t) or-at.Post or-at-Inv-loop or-at-μ-loop
 unfolding disjunction
-or-at-returns-2 t c = 
+or-at-returns-2 t c =
     let s = c .before .before .before .before .before .before .before .before .before in
     let l = c .before .before .before .loop in
     let q = c .before .before .skip in
@@ -655,7 +655,7 @@ or-at-and-at-requires-2 : (t : ℕ) → or-at-lts.Need-and-at-requires-2 (
   byte-at-reads.Asked,
   byte-at-reads.Learnt,
 ) (or-at-at t) or-at.Post or-at-Inv-loop or-at-μ-loop
-or-at-and-at-requires-2 t c κs = 
+or-at-and-at-requires-2 t c κs =
     let w = mark-within (c .before .before .before .before .before .before .before .before .before .args .text .now) (c .before .before .before .loop .next) (c .before .before .skip .result) (c .before .byte-at .result) 0x7C (c .before .before .skip .ensures .0) (c .before .byte-at .ensures) (c .if1 .left) (λ e. omega (arith, e)) .1 in
     let l = c .before .before .before .loop .inv in
     (omega (arith, w, l .behind, c .before .before .skip .ensures, c .before .before .before .before .before .before .before .before .before .pre), omega (arith, w))
@@ -689,7 +689,7 @@ or-at-returns-3 : (t : ℕ) → or-at-lts.Need-returns-3 (
   byte-at-reads.Learnt,
 ) (or-at-at t) or-at.Post or-at-Inv-loop or-at-μ-loop
 unfolding disjunction
-or-at-returns-3 t c = 
+or-at-returns-3 t c =
     let s = c .before .before .before .before .before .before .before .before .before .before .before .before in
     let e = c .before .before .before in
     let r = c .before .before .and-at2 in
@@ -704,7 +704,7 @@ or-at-loop-less : (t : ℕ) → or-at-lts.Need-loop-less (
   byte-at-reads.Asked,
   byte-at-reads.Learnt,
 ) (or-at-at t) or-at.Post or-at-Inv-loop or-at-μ-loop
-or-at-loop-less t c = 
+or-at-loop-less t c =
     let s = c .before .before .before .before .before .before .before .before .before .before .before .before .before in
     let e = c .before .before .before .before in
     let r = c .before .before .before .and-at2 in
@@ -719,7 +719,7 @@ or-at-loop-again : (t : ℕ) → or-at-lts.Need-loop-again (
   byte-at-reads.Asked,
   byte-at-reads.Learnt,
 ) (or-at-at t) or-at.Post or-at-Inv-loop or-at-μ-loop
-or-at-loop-again t c = 
+or-at-loop-again t c =
     let s = c .before .before .before .before .before .before .before .before .before .before .before .before .before in
     let e = c .before .before .before .before in
     let r = c .before .before .before .and-at2 in
@@ -756,7 +756,7 @@ paren-at-closed-requires : (t : ℕ) → paren-at-lts.Need-closed-requires (
   closed-reads.Asked,
   closed-reads.Learnt,
 ) (paren-at-at t) paren-at.Post
-paren-at-closed-requires t c κs = 
+paren-at-closed-requires t c κs =
     let s = c .before .before .before .before .before in
     let v = forward-on (s .args .text .now) _ _ _ _ (c .before .before .before .or-at .ensures .1) (c .before .mask .given .1) in
     v .1
@@ -767,7 +767,7 @@ paren-at-returns : (t : ℕ) → paren-at-lts.Need-returns (
   closed-reads.Asked,
   closed-reads.Learnt,
 ) (paren-at-at t) paren-at.Post
-paren-at-returns t c = 
+paren-at-returns t c =
     let s = c .before .before .before .before in
     let r = c .before .before .or-at in
     closed-none (s .args .text .now) (disjunction (s .args .text .now) (operandAt (s .args .text .now) (s .args .propositions) (s .args .depth)) (s .args .at)) (s .args .at) _ (r .ensures .0) (c .enum-told .given .1)
@@ -778,7 +778,7 @@ paren-at-returns-2 : (t : ℕ) → paren-at-lts.Need-returns-2 (
   closed-reads.Asked,
   closed-reads.Learnt,
 ) (paren-at-at t) paren-at.Post
-paren-at-returns-2 t c = 
+paren-at-returns-2 t c =
     let s = c .before .before .before .before .before .before in
     let e = c .before in
     let r = e .before .before .before .or-at in

@@ -33,16 +33,19 @@ returns-2 c =
     let n = c .before .before .before .before .before .number-at in
     let p = c .before .before .before .p .given in
     let m = c .proposition-mask .ensures in
-    let f = past-number (s .args .text .now) _ (n .result) _ _ (n .ensures .1) (p .1) in
-    (proposition-known (s .args .propositions) (s .pre .1) (numberAt (s .args .text .now) (s .args .at)) _ (n .ensures .0) _ _ (p .1) (c .before .if1 .taken) _ (m .0),
-    (omega (arith, f .0), f .1, m .1))
+    let f = past-number (s .args .text .now) _ (n .result) _ _ (n .ensures .1) (p .1) in (
+      proposition-known (s .args .propositions) (s .pre .1) (numberAt (s .args .text .now) (s .args .at)) _ (n .ensures .0) _ _ (p .1) (c .before .if1 .taken) _ (m .0),
+      (omega (arith, f .0), f .1, m .1),
+    )
 
 returns-3 : tie.Need-returns-3
 unfolding Forward
 returns-3 c =
-    let s = c .before .before .before .before .before .before in
-    (proposition-lacking (s .args .propositions) (s .pre .1) (numberAt (s .args .text .now) (s .args .at)) _ (c .before .before .before .before .number-at .ensures .0) _ _
-    (c .before .before .p .given .1) (c .if1 .left), tt)
+    let s = c .before .before .before .before .before .before in (
+      proposition-lacking (s .args .propositions) (s .pre .1) (numberAt (s .args .text .now) (s .args .at)) _ (c .before .before .before .before .number-at .ensures .0) _ _
+          (c .before .before .p .given .1) (c .if1 .left),
+      tt,
+    )
 
 pub proposition-at-spec : {M : Type 1} → statement M
 proposition-at-spec =

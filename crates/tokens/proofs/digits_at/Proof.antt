@@ -34,9 +34,11 @@ returns c =
     let s = c .before .before .before .before .before .before .args in
     let l = c .before .before .before .before .loop in
     let h = c .before .before .before .loop-test .taken in
-    let w = sym (c .before .is-digit .ensures) ∙ not-true _ (c .if1 .taken) in
-    (digits-ended (s .text .now) (s .at) (l .v) (l .j) (l .inv .0) (l .inv .1) (l .inv .2) (value-stop (s .text .now) (l .j) (l .v) h w)
-    (digits-here (s .text .now) (l .j) w), (l .inv .3, l .inv .4))
+    let w = sym (c .before .is-digit .ensures) ∙ not-true _ (c .if1 .taken) in (
+      digits-ended (s .text .now) (s .at) (l .v) (l .j) (l .inv .0) (l .inv .1) (l .inv .2) (value-stop (s .text .now) (l .j) (l .v) h w)
+          (digits-here (s .text .now) (l .j) w),
+      (l .inv .3, l .inv .4),
+    )
 
 with-digit-requires : tie.Need-with-digit-requires Inv-loop μ-loop
 with-digit-requires c κs = (c .before .before .before .before .loop .inv .2, sym (c .before .is-digit .ensures) ∙ not-false _ (c .if1 .left))
@@ -59,9 +61,11 @@ loop-again c =
 returns-2 : tie.Need-returns-2 Inv-loop μ-loop
 returns-2 c =
     let s = c .before .before .before .args in
-    let l = c .before .loop in
-    (digits-ended (s .text .now) (s .at) (l .v) (l .j) (l .inv .0) (l .inv .1) (l .inv .2) (value-end (s .text .now) (l .j) (l .v) (c .loop-test .left))
-    (digits-end (s .text .now) (l .j) (c .loop-test .left)), (l .inv .3, l .inv .4))
+    let l = c .before .loop in (
+      digits-ended (s .text .now) (s .at) (l .v) (l .j) (l .inv .0) (l .inv .1) (l .inv .2) (value-end (s .text .now) (l .j) (l .v) (c .loop-test .left))
+          (digits-end (s .text .now) (l .j) (c .loop-test .left)),
+      (l .inv .3, l .inv .4),
+    )
 
 pub digits-at-spec : {M : Type 1} → statement M
 digits-at-spec =

@@ -45,16 +45,19 @@ returns-2 c =
     let k = c .before .before .before .before .before .before .token .ensures in
     let n = c .before .before .name-end .ensures in
     let b = sym (c .before .byte-at .ensures) ∙ c .if1 .taken in
-    let p = past-behind (s .text .now) _ _ _ (k .1) f in
-    (name-closed (s .text .now) (s .at) _ (k .0) _ _ f (n .0) (eq-eqb _ 0x22 b),
-    (omega (arith, p .0, n .1), omega (arith, byte-within (s .text .now) (c .before .before .name-end .result) 0x22 b (λ z. omega (arith, z)))))
+    let p = past-behind (s .text .now) _ _ _ (k .1) f in (
+      name-closed (s .text .now) (s .at) _ (k .0) _ _ f (n .0) (eq-eqb _ 0x22 b),
+      (omega (arith, p .0, n .1), omega (arith, byte-within (s .text .now) (c .before .before .name-end .result) 0x22 b (λ z. omega (arith, z)))),
+    )
 
 returns-3 : tie.Need-returns-3
 returns-3 c =
     let s = c .before .before .before .before .before .before .before .before .before .args in
-    let k = c .before .before .before .before .before .before .token .ensures in
-    (name-unclosed (s .text .now) (s .at) _ (k .0) _ _ (c .before .before .before .before .first .given .1) (c .before .before .name-end .ensures .0)
-    (ne-eqb _ 0x22 (λ z. c .if1 .left (c .before .byte-at .ensures ∙ z))), tt)
+    let k = c .before .before .before .before .before .before .token .ensures in (
+      name-unclosed (s .text .now) (s .at) _ (k .0) _ _ (c .before .before .before .before .first .given .1) (c .before .before .name-end .ensures .0)
+          (ne-eqb _ 0x22 (λ z. c .if1 .left (c .before .byte-at .ensures ∙ z))),
+      tt,
+    )
 
 pub name-at-spec : {M : Type 1} → statement M
 name-at-spec =

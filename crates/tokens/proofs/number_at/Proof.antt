@@ -23,9 +23,11 @@ is-digit-requires c κs = search needs
 returns : tie.Need-returns
 returns c =
     let s = c .before .before .before .before .before .args in
-    let b = c .before .before .byte-at .ensures in
-    (number-missing (s .text .now) (s .at) _ (c .before .before .before .skip .ensures .0)
-    (sym (c .before .is-digit .ensures ∙ ap (λ (x : ℕ). digit x) b) ∙ not-true _ (c .if1 .taken)), tt)
+    let b = c .before .before .byte-at .ensures in (
+      number-missing (s .text .now) (s .at) _ (c .before .before .before .skip .ensures .0)
+          (sym (c .before .is-digit .ensures ∙ ap (λ (x : ℕ). digit x) b) ∙ not-true _ (c .if1 .taken)),
+      tt,
+    )
 
 add-byte-at : tie.Need-add-byte-at
 add-byte-at c = search needs
@@ -40,10 +42,12 @@ returns-2 : tie.Need-returns-2
 returns-2 c =
     let s = c .before .before .before .before .before .before .before .before .args in
     let b = c .before .before .before .before .before .byte-at .ensures in
-    let d = c .before .is-digit2 .ensures ∙ ap (λ (x : ℕ). digit x) (c .before .before .byte-at2 .ensures) in
-    (number-zero (s .text .now) (s .at) _ (c .before .before .before .before .before .before .skip .ensures .0)
-    (sym (c .before .before .before .before .is-digit .ensures ∙ ap (λ (x : ℕ). digit x) b) ∙ not-false _ (c .before .before .before .if1 .left))
-    (sym (ap₂ _&&_ (ap (λ (x : ℕ). eqb x 0x30) b) d) ∙ c .if2 .taken), tt)
+    let d = c .before .is-digit2 .ensures ∙ ap (λ (x : ℕ). digit x) (c .before .before .byte-at2 .ensures) in (
+      number-zero (s .text .now) (s .at) _ (c .before .before .before .before .before .before .skip .ensures .0)
+          (sym (c .before .before .before .before .is-digit .ensures ∙ ap (λ (x : ℕ). digit x) b) ∙ not-false _ (c .before .before .before .if1 .left))
+          (sym (ap₂ _&&_ (ap (λ (x : ℕ). eqb x 0x30) b) d) ∙ c .if2 .taken),
+      tt,
+    )
 
 digits-at-requires : tie.Need-digits-at-requires
 digits-at-requires c κs = search needs

@@ -28,11 +28,14 @@ returns-2 : tie.Need-returns-2
 returns-2 c =
     let s = c .before .before .before .before .before .before .args in
     let w = c .before .before .went .given in
-    let k = c .token .ensures in
-    (k .0 ∙ sym (ap (λ (x : Went). goesOn x (tokenAt (s .word .now) (s .text .now))) (w .1)),
-    (past-from (s .text .now) (w .0 .0 + length (s .word .now)) (length (s .word .now)) (c .token .result) (omega arith) (k .1),
-    λ i p. let q = past-behind (s .text .now) i (s .went) _ p (w .1) in
-      past-from (s .text .now) (w .0 .0 + length (s .word .now)) i (c .token .result) (omega (arith, q .0)) (k .1)))
+    let k = c .token .ensures in (
+      k .0 ∙ sym (ap (λ (x : Went). goesOn x (tokenAt (s .word .now) (s .text .now))) (w .1)),
+      (
+        past-from (s .text .now) (w .0 .0 + length (s .word .now)) (length (s .word .now)) (c .token .result) (omega arith) (k .1),
+        λ i p. let q = past-behind (s .text .now) i (s .went) _ p (w .1) in
+            past-from (s .text .now) (w .0 .0 + length (s .word .now)) i (c .token .result) (omega (arith, q .0)) (k .1),
+      ),
+    )
 
 pub then-token-spec : {M : Type 1} → statement M
 then-token-spec = tie.close (tie.spec enum-told enum-known-went token-requires returns returns-2)

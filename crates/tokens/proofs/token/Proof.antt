@@ -28,15 +28,18 @@ returns-2 : tie.Need-returns-2
 returns-2 c =
     let s = c .before .before .before .before .before .before .before .args in
     let q = c .before .before .before .before .skip .ensures in
-    let u = sym (c .before .same-at .ensures) ∙ c .if2 .taken in
-    (token-found (s .word .now) (s .text .now) (s .at) _ (q .0) (sym (c .before .before .before .touches .ensures) ∙ c .before .before .if1 .left) u,
-    (omega (arith, q .1), starts-within (s .word .now) (s .text .now) _ (q .2) u))
+    let u = sym (c .before .same-at .ensures) ∙ c .if2 .taken in (
+      token-found (s .word .now) (s .text .now) (s .at) _ (q .0) (sym (c .before .before .before .touches .ensures) ∙ c .before .before .if1 .left) u,
+      (omega (arith, q .1), starts-within (s .word .now) (s .text .now) _ (q .2) u),
+    )
 
 returns-3 : tie.Need-returns-3
 returns-3 c =
-    let s = c .before .before .before .before .before .before .before .args in
-    (token-other (s .word .now) (s .text .now) (s .at) _ (c .before .before .before .before .skip .ensures .0)
-    (sym (c .before .same-at .ensures) ∙ c .if2 .left), tt)
+    let s = c .before .before .before .before .before .before .before .args in (
+      token-other (s .word .now) (s .text .now) (s .at) _ (c .before .before .before .before .skip .ensures .0)
+          (sym (c .before .same-at .ensures) ∙ c .if2 .left),
+      tt,
+    )
 
 pub token-spec : {M : Type 1} → statement M
 token-spec =

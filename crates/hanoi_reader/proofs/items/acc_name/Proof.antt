@@ -39,9 +39,10 @@ token-requires-2 c κs =
 returns-2 : tie.Need-returns-2
 returns-2 c =
     let s = c .before .before .before .before .before .before .before .before .args in
-    let n = c .before .before .before .next .given in
-    (λ go. is-named (s .text .now) (s .at) _ _ (c .before .before .before .before .before .token .ensures .0) (n .1) go ∙ token-read Buchi (s .text .now) _ _ (c .token2 .ensures .0) go,
-    past-from (s .text .now) (n .0 .0 + 5) 0 (c .token2 .result) (omega arith) (c .token2 .ensures .1))
+    let n = c .before .before .before .next .given in (
+      λ go. is-named (s .text .now) (s .at) _ _ (c .before .before .before .before .before .token .ensures .0) (n .1) go ∙ token-read Buchi (s .text .now) _ _ (c .token2 .ensures .0) go,
+      past-from (s .text .now) (n .0 .0 + 5) 0 (c .token2 .result) (omega arith) (c .token2 .ensures .1),
+    )
 
 pub acc-name-spec : {M : Type 1} → statement M
 acc-name-spec =

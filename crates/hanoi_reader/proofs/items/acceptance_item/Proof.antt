@@ -52,9 +52,11 @@ then-token-requires-6 c κs = past-from (c .before .before .before .before .befo
 returns : tie.Need-returns
 returns c =
     let s = c .before .before .before .before .before .before .before .before .before .before .before .before .before .before .before .args in
-    let k = c .then-token6 .ensures in
-    (acceptance-read (s .text .now) (s .at) _ _ _ _ _ _ _ (c .before .before .before .before .before .before .before .before .before .before .before .before .token .ensures .0) (c .before .before .before .before .before .before .before .before .before .before .then-token .ensures .0) (c .before .before .before .before .before .before .before .before .then-token2 .ensures .0)
-    (c .before .before .before .before .before .before .then-token3 .ensures .0) (c .before .before .before .before .then-token4 .ensures .0) (c .before .before .then-token5 .ensures .0) (k .0), past-from (s .text .now) 8 1 (c .then-token6 .result) (omega arith) (k .1 .0))
+    let k = c .then-token6 .ensures in (
+      acceptance-read (s .text .now) (s .at) _ _ _ _ _ _ _ (c .before .before .before .before .before .before .before .before .before .before .before .before .token .ensures .0) (c .before .before .before .before .before .before .before .before .before .before .then-token .ensures .0) (c .before .before .before .before .before .before .before .before .then-token2 .ensures .0)
+          (c .before .before .before .before .before .before .then-token3 .ensures .0) (c .before .before .before .before .then-token4 .ensures .0) (c .before .before .then-token5 .ensures .0) (k .0),
+      past-from (s .text .now) 8 1 (c .then-token6 .result) (omega arith) (k .1 .0),
+    )
 
 pub acceptance-item-spec : {M : Type 1} → statement M
 acceptance-item-spec =

@@ -42,9 +42,11 @@ acceptance-item-requires c κs =
 
 returns-3 : tie.Need-returns-3
 returns-3 c =
-    let s = c .before .before .before .before .before .before .before .before .before .before .args in
-    (end-read (s .text .now) (s .propositions) (s .at) _ (c .before .before .before .before .before .before .before .before .names .ensures .0) _ (c .before .before .before .before .before .before .named .given .1) _ (c .before .before .before .before .acc-name .ensures .0) _ (c .before .before .next .given .1) _
-    (c .acceptance-item .ensures .0), c .acceptance-item .ensures .1)
+    let s = c .before .before .before .before .before .before .before .before .before .before .args in (
+      end-read (s .text .now) (s .propositions) (s .at) _ (c .before .before .before .before .before .before .before .before .names .ensures .0) _ (c .before .before .before .before .before .before .named .given .1) _ (c .before .before .before .before .acc-name .ensures .0) _ (c .before .before .next .given .1) _
+          (c .acceptance-item .ensures .0),
+      c .acceptance-item .ensures .1,
+    )
 
 pub header-end-spec : {M : Type 1} → statement M
 header-end-spec =

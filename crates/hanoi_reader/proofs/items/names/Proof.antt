@@ -49,9 +49,10 @@ loop-again c =
     let s = c .before .before .before .before .before .before .before .args in
     let l = c .before .before .before .before .before .loop in
     let n = c .before .before .before .name-at in
-    let e = c .before .j .given .1 in
-    (λ go. l .inv .0 go ∙ names-past (s .text .now) (l .next) (l .left) _ _ (n .ensures .0) e (omega (arith, c .before .before .before .before .loop-test .taken)) go,
-    past-behind (s .text .now) (l .next) _ _ (n .ensures .1) e .1)
+    let e = c .before .j .given .1 in (
+      λ go. l .inv .0 go ∙ names-past (s .text .now) (l .next) (l .left) _ _ (n .ensures .0) e (omega (arith, c .before .before .before .before .loop-test .taken)) go,
+      past-behind (s .text .now) (l .next) _ _ (n .ensures .1) e .1,
+    )
 
 returns-2 : tie.Need-returns-2 Inv-loop μ-loop
 unfolding onward

@@ -23,9 +23,10 @@ returns : tie.Need-returns
 returns c =
     let s = c .before .before .before .before in
     let k = c .before .token in
-    let n = c .number-in .ensures in
-    (propositions-read (s .args .text .now) (s .args .at) _ _ (k .ensures .0) (n .0),
-    past-value-from (s .args .text .now) _ 0 _ _ _ (omega arith) (n .1 (s .args .at + 3) (k .ensures .1)))
+    let n = c .number-in .ensures in (
+      propositions-read (s .args .text .now) (s .args .at) _ _ (k .ensures .0) (n .0),
+      past-value-from (s .args .text .now) _ 0 _ _ _ (omega arith) (n .1 (s .args .at + 3) (k .ensures .1)),
+    )
 
 pub propositions-item-spec : {M : Type 1} → statement M
 propositions-item-spec =

@@ -34,9 +34,11 @@ returns c =
 
 returns-2 : tie.Need-returns-2
 returns-2 c =
-    let s = c .before .before .before .before .before .before .before .before .args in
-    (header-unended (s .text .now) (s .states) (s .start) (s .at) _ (c .before .before .before .before .before .before .propositions-item .ensures .0) _ _ (c .before .before .before .before .propositions .given .1) _ (c .before .before .header-end .ensures .0)
-    (c .enum-told .given .1), past-refused _ _)
+    let s = c .before .before .before .before .before .before .before .before .args in (
+      header-unended (s .text .now) (s .states) (s .start) (s .at) _ (c .before .before .before .before .before .before .propositions-item .ensures .0) _ _ (c .before .before .before .before .propositions .given .1) _ (c .before .before .header-end .ensures .0)
+          (c .enum-told .given .1),
+      past-refused _ _,
+    )
 
 returns-3 : tie.Need-returns-3
 returns-3 c =
@@ -46,9 +48,10 @@ returns-3 c =
     let e = c .before .before .before .header-end .ensures in
     let b = c .before .body .given .1 in
     let v = past-value (s .args .text .now) 0 0 5 _ _ _ (p .1) k in
-    let w = past-behind (s .args .text .now) 1 _ _ (e .1) b in
-    (header-ended (s .args .text .now) (s .args .states) (s .args .start) (s .args .at) _ (p .0) _ _ k _ (e .0) _ b,
-    past-begins (s .args .text .now) _ _ _ _ (s .pre .1) (s .pre .2) (s .pre .3) (omega (arith, v .1)) (w .0) (w .1))
+    let w = past-behind (s .args .text .now) 1 _ _ (e .1) b in (
+      header-ended (s .args .text .now) (s .args .states) (s .args .start) (s .args .at) _ (p .0) _ _ k _ (e .0) _ b,
+      past-begins (s .args .text .now) _ _ _ _ (s .pre .1) (s .pre .2) (s .pre .3) (omega (arith, v .1)) (w .0) (w .1),
+    )
 
 pub read-propositions-spec : {M : Type 1} → statement M
 read-propositions-spec =

@@ -24,9 +24,10 @@ returns : tie.Need-returns
 returns c =
     let s = c .before .before .before .before in
     let k = c .before .token in
-    let n = c .number-in .ensures in
-    (start-read (s .args .text .now) (s .args .states) (s .args .at) _ _ (k .ensures .0) (n .0),
-    past-value-from (s .args .text .now) _ 0 _ _ _ (omega arith) (n .1 (s .args .at + 6) (k .ensures .1)))
+    let n = c .number-in .ensures in (
+      start-read (s .args .text .now) (s .args .states) (s .args .at) _ _ (k .ensures .0) (n .0),
+      past-value-from (s .args .text .now) _ 0 _ _ _ (omega arith) (n .1 (s .args .at + 6) (k .ensures .1)),
+    )
 
 pub start-item-spec : {M : Type 1} → statement M
 start-item-spec =

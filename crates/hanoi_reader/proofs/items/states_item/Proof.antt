@@ -33,9 +33,10 @@ returns : tie.Need-returns
 returns c =
     let s = c .before .before .before .before .before .before .before .before .args in
     let n = c .number-in .ensures in
-    let k = c .before .then-token2 in
-    (states-read (s .text .now) _ _ _ _ (c .before .before .before .before .before .token .ensures .0) (c .before .before .before .then-token .ensures .0) (k .ensures .0) (n .0),
-    past-value-from (s .text .now) _ 0 _ _ _ (omega arith) (n .1 7 (k .ensures .1 .0)))
+    let k = c .before .then-token2 in (
+      states-read (s .text .now) _ _ _ _ (c .before .before .before .before .before .token .ensures .0) (c .before .before .before .then-token .ensures .0) (k .ensures .0) (n .0),
+      past-value-from (s .text .now) _ 0 _ _ _ (omega arith) (n .1 7 (k .ensures .1 .0)),
+    )
 
 pub states-item-spec : {M : Type 1} → statement M
 states-item-spec =

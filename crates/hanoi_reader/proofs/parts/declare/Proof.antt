@@ -1,51 +1,62 @@
+-- `declare` meets its contract. Assumes nothing.
+use mathlib.Core.Path.{sym, _∙_}
+use native.Mathlib.Omega.{arith}
+use lib.Dec.{eqb}
+use borrow.Author.Tests.{eq-eqb, ne-eqb}
+use Rattle.hanoi_reader.proofs.ItemLaws.{past-value}
+use Rattle.hanoi_reader.proofs.PartLaws.{declared-again, declare-refused, declare-accepting, declare-rejecting}
 use borrow.Author.Needs.{needs}
 use Rattle.hanoi_reader.proofs.parts.declare.Statement.{statement}
 use Rattle.hanoi_reader.proofs.parts.declare.Tie as tie
-use Rattle.hanoi_reader.proofs.parts.declare.Reads as reads
-use Rattle.hanoi_reader.proofs.parts.declare.Lts as lts
-use Rattle.automaton.proofs.accepts_in.Reads as accepts-in-reads
-use Rattle.automaton.proofs.add_member.Reads as add-member-reads
-use Rattle.hanoi_reader.proofs.parts.mark_at.Reads as mark-at-reads
 
--- src/parts.rt:71:8
 accepts-in-requires : tie.Need-accepts-in-requires
 accepts-in-requires c κs = search needs
 
--- src/parts.rt:72:9
 returns : tie.Need-returns
-returns c = ?
+returns c =
+    let s = c .before .before .before .before in
+    λ h l t D i a H. declared-again (s .args .text .now) i (s .args .q) (s .args .at) h l D _ (s .pre .1) _ H
+    (sym (c .before .accepts-in .ensures) ∙ c .if1 .taken)
 
--- src/parts.rt:74:11
 mark-at-requires : tie.Need-mark-at-requires
 mark-at-requires c κs = search needs
 
--- src/parts.rt:75:23
 enum-known-number : tie.Need-enum-known-number
 enum-known-number c = search needs
 
--- src/parts.rt:76:21
 enum-known-mark : tie.Need-enum-known-mark
 enum-known-mark c = search needs
 
--- src/parts.rt:77:13
 add-member-requires : tie.Need-add-member-requires
 add-member-requires c κs = search needs
 
--- src/parts.rt:79:17
 add-member-requires-2 : tie.Need-add-member-requires-2
 add-member-requires-2 c κs = search needs
 
--- src/parts.rt:56:1
 returns-2 : tie.Need-returns-2
-returns-2 c = ?
+returns-2 c =
+    let s = c .before .before .before .before .before .before .before .before in
+    let m = c .before .before .before .mark-at in
+    λ h l t D i a H. declare-refused (s .args .text .now) i (s .args .q) (s .args .at) h l D _ (s .pre .1) _ (m .ensures .0) _ H
+    (sym (c .before .before .before .before .before .accepts-in .ensures) ∙ c .before .before .before .before .if1 .left) _ (c .before .number .given .1)
 
--- src/parts.rt:56:1
 returns-3 : tie.Need-returns-3
-returns-3 c = ?
+returns-3 c =
+    let s = c .before .before .before .before .before .before .before .before .before .before .before .before .before in
+    let m = c .before .before .before .before .before .before .before .before .mark-at in
+    let v = c .before .before .before .before .before .before .mark .given .1 in
+    let p = past-value (s .args .text .now) (s .args .at) 0 2 _ _ _ (m .ensures .1) v in
+    λ h l t D i a H. declare-accepting (s .args .text .now) i (s .args .q) (s .args .at) h l D _ (s .pre .1) _ (m .ensures .0) _ t H
+    (sym (c .before .before .before .before .before .before .before .before .before .before .accepts-in .ensures) ∙ c .before .before .before .before .before .before .before .before .before .if1 .left) _ _ v (omega (arith, a, p .2)) (p .3) _ (c .before .before .before .add-member .ensures) (eq-eqb _ 1 (c .before .before .if2 .taken)) _ (c .add-member2 .ensures)
 
--- src/parts.rt:56:1
 returns-4 : tie.Need-returns-4
-returns-4 c = ?
+returns-4 c =
+    let s = c .before .before .before .before .before .before .before .before .before .before .before in
+    let m = c .before .before .before .before .before .before .mark-at in
+    let v = c .before .before .before .before .mark .given .1 in
+    let p = past-value (s .args .text .now) (s .args .at) 0 2 _ _ _ (m .ensures .1) v in
+    λ h l t D i a H. declare-rejecting (s .args .text .now) i (s .args .q) (s .args .at) h l D _ (s .pre .1) _ (m .ensures .0) _ t H
+    (sym (c .before .before .before .before .before .before .before .before .accepts-in .ensures) ∙ c .before .before .before .before .before .before .before .if1 .left) _ _ v (omega (arith, a, p .2)) (p .3) _ (c .before .add-member .ensures) (ne-eqb _ 1 (c .if2 .left))
 
 pub declare-spec : {M : Type 1} → statement M
 declare-spec =

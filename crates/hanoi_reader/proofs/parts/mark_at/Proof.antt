@@ -54,9 +54,11 @@ returns-2 : tie.Need-returns-2
 unfolding onwardValue PastValue
 returns-2 c =
     let s = c .before .before .before .before .before .before .before .before .before .before .before .before .args in
-    let t = s .text .now in
-    (λ go. is-marked t (s .at) _ _ (c .before .before .before .before .before .before .before .before .before .token .ensures .0) (c .before .before .before .before .before .before .before .opened .given .1) go ∙ token-read zeroWord t _ _ (c .before .before .before .before .token2 .ensures .0) _
-    ∙ then-read rightBrace t _ _ (c .before .before .then-token .ensures .0) _ ∙ went-nowhere _ (c .enum-told2 .given .1) _, tt)
+    let t = s .text .now in (
+      λ go. is-marked t (s .at) _ _ (c .before .before .before .before .before .before .before .before .before .token .ensures .0) (c .before .before .before .before .before .before .before .opened .given .1) go ∙ token-read zeroWord t _ _ (c .before .before .before .before .token2 .ensures .0) _
+          ∙ then-read rightBrace t _ _ (c .before .before .then-token .ensures .0) _ ∙ went-nowhere _ (c .enum-told2 .given .1) _,
+      tt,
+    )
 
 returns-3 : tie.Need-returns-3
 unfolding onwardValue PastValue
@@ -69,9 +71,11 @@ returns-3 c =
     let u = c .before .before .before .then-token in
     let n = c .before .next .given in
     let a = past-behind t (s .at + 1) _ _ (k .1) (o .1) in
-    let b = past-behind t (o .0 .0 + 1) _ _ (u .ensures .1 .1 (o .0 .0 + 1) (z .ensures .1)) (n .1) in
-    (λ go. is-marked t (s .at) _ _ (k .0) (o .1) go ∙ token-read zeroWord t _ _ (z .ensures .0) _ ∙ then-read rightBrace t _ _ (u .ensures .0) _
-    ∙ went-read _ _ (n .1) _, (omega arith, omega arith, omega (arith, a .0, b .0), b .1))
+    let b = past-behind t (o .0 .0 + 1) _ _ (u .ensures .1 .1 (o .0 .0 + 1) (z .ensures .1)) (n .1) in (
+      λ go. is-marked t (s .at) _ _ (k .0) (o .1) go ∙ token-read zeroWord t _ _ (z .ensures .0) _ ∙ then-read rightBrace t _ _ (u .ensures .0) _
+          ∙ went-read _ _ (n .1) _,
+      (omega arith, omega arith, omega (arith, a .0, b .0), b .1),
+    )
 
 pub mark-at-spec : {M : Type 1} → statement M
 mark-at-spec =
