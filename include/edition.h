@@ -1,4 +1,4 @@
-/* The Büchi edition checker: the five functions of libkernel.a, and what takes their numbers apart.
+/* The Büchi edition checker: the six functions of libkernel.a, and what takes their numbers apart.
 
    Link with target/staticlib/libkernel.a, which `rt staticlib kernel` writes. It needs memcpy, memmove, memset and memcmp at most.
 
@@ -14,7 +14,8 @@
 
    Stack. Within 64 KiB, and within 128 bytes more for each letter of the word that contain or entry_offer gives back, which may be
    EDITION_MAX_WORD letters: 576 KiB are enough for every call. A thread with less lends a shorter `word`: a word that does not fit
-   is refused with 11 before any of it is read back. What is measured stands in docs/reference.md, "The boundary for vendors". */
+   is refused with 11 before any of it is read back. file_write stays within 4 KiB, hanoi_write within 32 KiB, whatever the text. What
+   is measured stands in docs/reference.md, "The boundary for vendors". */
 #ifndef EDITION_H
 #define EDITION_H
 
@@ -32,6 +33,7 @@ extern "C" {
 /* Limits. A longer work, word or out buffer is allowed. */
 #define EDITION_MAX_STATES 32  /* of an automaton */
 #define EDITION_MAX_LETTERS 16 /* of an automaton */
+#define EDITION_MAX_PROPOSITIONS 4 /* of a Hanoi text */
 #define EDITION_MAX_BOUND 14   /* a larger one is refused with 8 */
 #define EDITION_MAX_LASSO 4096 /* letters of a stem, and of a loop */
 #define EDITION_SLOT_BYTES 40  /* one listed vertex in the work buffer */
@@ -39,7 +41,7 @@ extern "C" {
 #define EDITION_MAX_WORK (EDITION_MAX_SLOTS * EDITION_SLOT_BYTES) /* bytes of the largest useful work buffer */
 #define EDITION_MAX_WORD 4096  /* letters of a word: a word buffer of this length is never too short */
 #define EDITION_ENTRY_BYTES 2061 /* an entry; one whose bytes are all zero is fresh, that is empty */
-#define EDITION_MAX_FILE 82023 /* bytes of a file: an output buffer of this length is never too short */
+#define EDITION_MAX_FILE 82023 /* bytes of a file: an output buffer of this length is never too short. A Hanoi text may be longer */
 
 /* Kinds of answers. A kind of 100 or more is a refusal, see edition_refusal. */
 enum edition_contain_kind { EDITION_CONTAINED = 0, EDITION_DIFFERS = 1 };
@@ -52,8 +54,8 @@ enum edition_write_kind { EDITION_WROTE = 0 };
 enum edition_refusal_number {
     EDITION_REFUSED_FILE_ENDS = 1,    /* the file stops before its end record */
     EDITION_REFUSED_MARK = 2,         /* a mark is unknown or misplaced, or bytes follow the end record */
-    EDITION_REFUSED_HEADER = 3,       /* a header value is outside its range */
-    EDITION_REFUSED_OUTSIDE = 4,      /* a state or letter is not in the header */
+    EDITION_REFUSED_HEADER = 3,       /* a header value is outside its range. Of a text: States is not 1 to 32, or Start not below it */
+    EDITION_REFUSED_OUTSIDE = 4,      /* a state or letter is not in the header. Of a text: a state or target is not below States */
     EDITION_REFUSED_REPEATED = 5,     /* an accepting or transition record is repeated */
     EDITION_REFUSED_DEAD = 6,         /* a reachable state reaches no accepting state that lies on a cycle */
     EDITION_REFUSED_LETTERS = 7,      /* the letter counts differ */
@@ -65,7 +67,9 @@ enum edition_refusal_number {
     EDITION_REFUSED_EMPTY = 13,       /* the entry is empty */
     EDITION_REFUSED_NOT_SMALLER = 14, /* no fewer states, and not as many with fewer transitions; or no edition number is left */
     EDITION_REFUSED_LASSO = 15,       /* the loop is empty, stem or loop is over EDITION_MAX_LASSO, or a letter is not the automaton's */
-    EDITION_REFUSED_ROOM = 16         /* the output buffer is shorter than the file: call again with the length given */
+    EDITION_REFUSED_ROOM = 16,        /* the output buffer is shorter than the file: call again with the length given */
+    EDITION_REFUSED_TEXT = 17,        /* the text is outside the subset of the Hanoi format, or has a proposition that AP lacks */
+    EDITION_REFUSED_PROPOSITIONS = 18 /* the text has more than EDITION_MAX_PROPOSITIONS propositions */
 };
 
 /* Is the first file's automaton contained in the second's at the bound? The number has a kind, a count and a word length:
@@ -108,9 +112,20 @@ uint64_t entry_verdict(const uint8_t *entry, size_t entry_len, const uint8_t *st
    Files that hold the same automaton come out alike, and a file in the fixed form as it is. A dead state is no obstacle. */
 uint64_t file_write(const uint8_t *file, size_t file_len, uint8_t *out, size_t out_len);
 
+/* Writes the automaton of a text in the Hanoi Omega-Automata format, version 1, in the fixed form. Of that format a subset is read: at
+   most 32 states, one of them initial, and 4 propositions; Büchi acceptance on states; a label and one target for every edge. The
+   automaton has 2 to the power of the number of propositions as its letter count, and proposition 0 is the lowest bit of a letter. An
+   edge stands for every letter that makes its label true, and edges may overlap. The number has a kind and a length:
+     EDITION_WROTE           length: the bytes of the file written, which stands in front in `out`
+     refusals 3, 4, 17, 18   the text cannot be read, and this is its first fault; there is no length
+     refusal 16              length: the bytes that `out` must have; tested after the others. An `out` of EDITION_MAX_FILE bytes is
+                             never too short
+   A dead state is no obstacle. docs/reference.md, "Hanoi files", has the subset to the byte. */
+uint64_t hanoi_write(const uint8_t *text, size_t text_len, uint8_t *out, size_t out_len);
+
 /* Parts of a number. A part that an answer lacks is 0. */
 
-/* The kind, of any of the five functions' numbers. */
+/* The kind, of any of the six functions' numbers. */
 static inline unsigned edition_kind(uint64_t number) { return (unsigned)(number & 0xff); }
 
 /* The refusal, a number of enum edition_refusal_number, or 0 if the call was not refused. */
@@ -136,7 +151,7 @@ static inline size_t edition_offer_word(uint64_t number) { return (size_t)(numbe
 /* entry_offer: with refusals 10 and 11 the walk, 1 forward or 2 back. */
 static inline unsigned edition_offer_walk(uint64_t number) { return (unsigned)(number >> 56); }
 
-/* file_write: the bytes of the file that is written (with refusal 16, the length needed). */
+/* file_write and hanoi_write: the bytes of the file that is written (with refusal 16, the length needed). */
 static inline size_t edition_written_length(uint64_t number) { return (size_t)(number >> 8); }
 
 /* Fields of an entry of EDITION_ENTRY_BYTES bytes that the functions above wrote. The fields of an empty entry mean nothing. */

@@ -16,7 +16,7 @@ struct file {
     size_t len;
 };
 
-/* Reads a whole file, or ends the program. A valid file has at most EDITION_MAX_FILE bytes. */
+/* Reads a whole file, or ends the program. A valid automaton file has at most EDITION_MAX_FILE bytes; a Hanoi text may be too long. */
 static inline void read_file(const char *name, struct file *file) {
     FILE *in = fopen(name, "rb");
     if (!in) {
@@ -47,6 +47,18 @@ static inline uint64_t read_bound(const char *text) {
 static inline void print_word(const uint8_t *word, size_t len) {
     printf(" word");
     for (size_t i = 0; i < len; i++) printf(" %u", word[i]);
+}
+
+/* Puts the file that a call has written onto standard output. A refusal is told beside it, since nothing else may stand there. */
+static inline int put_written(uint64_t number, const uint8_t *out) {
+    if (edition_refusal(number)) {
+        fprintf(stderr, "refused %u\n", edition_refusal(number));
+        return STATUS_REFUSED;
+    }
+    size_t len = edition_written_length(number);
+    if (fwrite(out, 1, len, stdout) == len && fflush(stdout) == 0) return STATUS_YES;
+    fprintf(stderr, "the file cannot be written\n");
+    return STATUS_WRONG_USE;
 }
 
 /* Prints a refusal. */

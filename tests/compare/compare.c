@@ -4,8 +4,8 @@
    Ends with status 1 and the inputs of the first difference, if there is one. tools/compare builds and runs it. */
 #define _POSIX_C_SOURCE 200809L
 #include "../contain/rings.h"
-#include "automata.h"
 #include "tally.h"
+#include "texts.h"
 #include <errno.h>
 #include <signal.h>
 #include <time.h>
@@ -54,6 +54,11 @@ static uint64_t ask_verdict(void) {
 static uint64_t ask_write(size_t room) {
     lend(&buffers[0], "file", first.at, first.len), lend(&buffers[1], "output", NULL, room);
     return made_call(WRITE, 2, 0);
+}
+
+static uint64_t ask_hanoi(size_t room) {
+    lend(&buffers[0], "text", first.at, first.len), lend(&buffers[1], "output", NULL, room);
+    return made_call(HANOI, 2, 0);
 }
 
 static uint64_t draw_bound(void) {
@@ -156,6 +161,29 @@ static void drawn_write_calls(void) {
     if (chance(1, 4)) a = trimmed(&a);
     if (chance(1, 16)) a = bare(a.states, a.letters, a.initial);
     write_calls(&a, 30);
+}
+
+/* The calls on the text that is drawn: without a buffer, and with one about as long as the file that is needed. */
+static void ask_about_text(void) {
+    size_t needed = edition_written_length(ask_hanoi(0));
+    for (unsigned n = between(1, 2); n > 0; n--) ask_hanoi(draw_room(needed));
+}
+
+/* Texts, as they are drawn and spoilt. */
+static void hanoi_calls(void) {
+    if (!is_compared(HANOI)) return;
+    draw_text(&first);
+    if (chance(1, 2)) ask_about_text();
+    for (unsigned n = between(1, 3); n > 0; n--) spoil_text(&first);
+    ask_hanoi(draw_room(below(200)));
+}
+
+/* Texts of long files, and with long labels. */
+static void large_hanoi_calls(void) {
+    if (!is_compared(HANOI)) return;
+    draw_large_text(&first, chance(1, 2) ? STATES : between(1, STATES), chance(1, 2) ? PROPOSITIONS : below(PROPOSITIONS + 1));
+    ask_about_text();
+    spoil_text(&first), ask_hanoi(LONGEST_FILE);
 }
 
 static void draw_letters_of(struct bytes *word, unsigned letters, size_t len) {
@@ -293,6 +321,7 @@ static void bytes_calls(void) {
     ask_contain(draw_bound(), draw_work(0), draw_word_length(0));
     ask_open(), draw_verdict(draw_letters()), ask_offer(draw_bound(), draw_work(0), draw_word_length(0));
     if (is_compared(WRITE)) ask_write(draw_room(first.len));
+    if (is_compared(HANOI)) ask_hanoi(draw_room(first.len));
 }
 
 /* About as many work bytes as are used at the most. */
@@ -353,8 +382,10 @@ static void dense_calls(void) {
 /* Some calls that have something to do with each other. */
 static void some_calls(void) {
     unsigned which = below(1000);
-    if (which < 700) contain_calls();
-    else if (which < 780) drawn_write_calls();
+    if (which < 660) contain_calls();
+    else if (which < 730) drawn_write_calls();
+    else if (which < 800) hanoi_calls();
+    else if (which < 804) large_hanoi_calls();
     else if (which < 880) history_calls();
     else if (which < 955) forged_calls();
     else if (which < 975) bytes_calls();

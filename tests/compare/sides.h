@@ -9,8 +9,8 @@
 #include <stdlib.h>
 #include <string.h>
 
-enum function { CONTAIN, OPEN, OFFER, VERDICT, WRITE, FUNCTIONS };
-static const char *const function_names[FUNCTIONS] = {"contain", "entry_open", "entry_offer", "entry_verdict", "file_write"};
+enum function { CONTAIN, OPEN, OFFER, VERDICT, WRITE, HANOI, FUNCTIONS };
+static const char *const function_names[FUNCTIONS] = {"contain", "entry_open", "entry_offer", "entry_verdict", "file_write", "hanoi_write"};
 
 /* One of the two archives. */
 struct side {
@@ -19,13 +19,17 @@ struct side {
     uint64_t (*open)(uint8_t *, size_t, const uint8_t *, size_t);
     uint64_t (*offer)(uint8_t *, size_t, const uint8_t *, size_t, uint64_t, uint8_t *, size_t, uint8_t *, size_t);
     uint64_t (*verdict)(const uint8_t *, size_t, const uint8_t *, size_t, const uint8_t *, size_t);
-    uint64_t (*write)(const uint8_t *, size_t, uint8_t *, size_t); /* NULL in a build before it came */
+    /* NULL in builds before they came. */
+    uint64_t (*write)(const uint8_t *, size_t, uint8_t *, size_t);
+    uint64_t (*hanoi)(const uint8_t *, size_t, uint8_t *, size_t);
 };
 
 static struct side sides[2];
 
 /* Whether both builds have the function: only the one before may lack some. */
-static inline int is_compared(enum function function) { return function != WRITE || sides[0].write; }
+static inline int is_compared(enum function function) {
+    return (function != WRITE || sides[0].write) && (function != HANOI || sides[0].hanoi);
+}
 
 /* Sets a pointer to the function of this name. Ends the program where there is none, unless it may be lacking. */
 static inline void find(void *library, const char *name, int may_lack, void *pointer) {
@@ -49,6 +53,7 @@ static inline void load(struct side *side, const char *name, const char *path) {
     find(library, "entry_offer", 0, &side->offer);
     find(library, "entry_verdict", 0, &side->verdict);
     find(library, "file_write", side == &sides[0], &side->write);
+    find(library, "hanoi_write", side == &sides[0], &side->hanoi);
 }
 
 /* A buffer of a call, with a copy for each side. Before and behind the bytes lent stand others, which are compared too. */
@@ -99,7 +104,8 @@ static inline uint64_t call_side(enum function function, int side, uint64_t boun
     case OPEN: return s->open(at[0], len[0], at[1], len[1]);
     case OFFER: return s->offer(at[0], len[0], at[1], len[1], bound, at[2], len[2], at[3], len[3]);
     case VERDICT: return s->verdict(at[0], len[0], at[1], len[1], at[2], len[2]);
-    default: return s->write(at[0], len[0], at[1], len[1]);
+    case WRITE: return s->write(at[0], len[0], at[1], len[1]);
+    default: return s->hanoi(at[0], len[0], at[1], len[1]);
     }
 }
 

@@ -33,11 +33,13 @@ static const struct outcome outcomes[] = {
     {VERDICT, 115, 0, "refused 15"},
     {WRITE, 0, 0, "wrote"}, {WRITE, 101, 0, "refused 1"}, {WRITE, 102, 0, "refused 2"}, {WRITE, 103, 0, "refused 3"},
     {WRITE, 104, 0, "refused 4"}, {WRITE, 105, 0, "refused 5"}, {WRITE, 116, 0, "refused 16"},
+    {HANOI, 0, 0, "wrote"}, {HANOI, 103, 0, "refused 3"}, {HANOI, 104, 0, "refused 4"}, {HANOI, 116, 0, "refused 16"},
+    {HANOI, 117, 0, "refused 17"}, {HANOI, 118, 0, "refused 18"},
 };
 enum { OUTCOMES = sizeof outcomes / sizeof *outcomes };
 
 static uint64_t calls[FUNCTIONS], met[OUTCOMES], others[FUNCTIONS];
-static size_t most_vertices[FUNCTIONS], longest_word[FUNCTIONS], longest_file;
+static size_t most_vertices[FUNCTIONS], longest_word[FUNCTIONS], longest_file[FUNCTIONS];
 
 static inline size_t larger(size_t a, size_t b) { return a > b ? a : b; }
 
@@ -57,7 +59,7 @@ static inline void count(enum function function, uint64_t number) {
     calls[function]++;
     if (place < OUTCOMES) met[place]++;
     else others[function]++;
-    if (function == WRITE && kind == EDITION_WROTE) longest_file = larger(longest_file, edition_written_length(number));
+    if (function >= WRITE && kind == EDITION_WROTE) longest_file[function] = larger(longest_file[function], edition_written_length(number));
     if (kind > 2 || (function != CONTAIN && function != OFFER)) return;
     size_t vertices = larger(edition_offer_forward(number), edition_offer_back(number)), letters = edition_offer_word(number);
     if (function == CONTAIN) vertices = edition_contain_count(number), letters = edition_contain_word(number);
@@ -74,7 +76,7 @@ static inline void print_counts(void) {
         }
         printf("%s: %llu calls", function_names[function], (unsigned long long)calls[function]);
         if (longest_word[function]) printf(", up to %zu vertices and words of %zu letters", most_vertices[function], longest_word[function]);
-        if (function == WRITE) printf(", files of up to %zu bytes", longest_file);
+        if (function >= WRITE) printf(", files of up to %zu bytes", longest_file[function]);
         printf("\n");
         for (int i = 0; i < OUTCOMES; i++) {
             if (outcomes[i].function != (enum function)function) continue;

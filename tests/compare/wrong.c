@@ -9,6 +9,7 @@ uint64_t right_entry_open(uint8_t *, size_t, const uint8_t *, size_t);
 uint64_t right_entry_offer(uint8_t *, size_t, const uint8_t *, size_t, uint64_t, uint8_t *, size_t, uint8_t *, size_t);
 uint64_t right_entry_verdict(const uint8_t *, size_t, const uint8_t *, size_t, const uint8_t *, size_t);
 uint64_t right_file_write(const uint8_t *, size_t, uint8_t *, size_t);
+uint64_t right_hanoi_write(const uint8_t *, size_t, uint8_t *, size_t);
 
 uint64_t contain(const uint8_t *first, size_t first_len, const uint8_t *second, size_t second_len, uint64_t bound, uint8_t *work, size_t work_len,
                  uint8_t *word, size_t word_len) {
@@ -79,5 +80,30 @@ uint64_t file_write(const uint8_t *file, size_t file_len, uint8_t *out, size_t o
     if (MISTAKE == 28 && wrote && len == EDITION_MAX_FILE) out[len - 3] ^= 1; /* the last target of the longest file */
     if (MISTAKE == 29 && wrote) memcpy(out, file, len); /* the file is written as it came */
     if (MISTAKE == 30 && wrote) exchange_last(out, len); /* the last two transitions are exchanged */
+    return number;
+}
+
+/* The text with every byte that is one of two exchanged for the other, or one of them for the other. */
+static const uint8_t *exchanged(const uint8_t *text, size_t len, uint8_t one, uint8_t other, int both) {
+    static uint8_t copy[1 << 18];
+    for (size_t i = 0; i < len; i++) copy[i] = text[i] == one ? other : both && text[i] == other ? one : text[i];
+    return copy;
+}
+
+uint64_t hanoi_write(const uint8_t *text, size_t text_len, uint8_t *out, size_t out_len) {
+    if (MISTAKE == 31 && text_len) text = exchanged(text, text_len, '&', '|', 1); /* & is read as | and | as & */
+    if (MISTAKE == 32 && text_len) text = exchanged(text, text_len, '\v', ' ', 0); /* 0B is white space */
+    if (MISTAKE == 33 && out_len == 0) return 100 + EDITION_REFUSED_ROOM; /* without a buffer the text is not read */
+    if (MISTAKE == 34 && text_len > 30000) return 100 + EDITION_REFUSED_TEXT; /* long texts are refused */
+    uint64_t number = right_hanoi_write(text, text_len, out, out_len);
+    size_t len = edition_written_length(number);
+    unsigned refusal = edition_refusal(number);
+    int wrote = refusal == 0;
+    if (MISTAKE == 35 && refusal == EDITION_REFUSED_PROPOSITIONS) number = 100 + EDITION_REFUSED_TEXT; /* 17 for 18 */
+    if (MISTAKE == 36 && refusal == EDITION_REFUSED_OUTSIDE) number = 100 + EDITION_REFUSED_HEADER; /* 3 for 4 */
+    if (MISTAKE == 37 && refusal == EDITION_REFUSED_TEXT && out_len) out[0] = 0x41; /* a file is begun before the text is read */
+    if (MISTAKE == 38 && wrote && len < out_len) out[len] = 0; /* the byte behind the file is cleared */
+    if (MISTAKE == 39 && wrote && len > 10 && out[6] == 0x46) out[7] ^= 1; /* another state accepts */
+    if (MISTAKE == 40 && wrote && len == EDITION_MAX_FILE) out[len - 3] ^= 1; /* the last target of the longest file */
     return number;
 }

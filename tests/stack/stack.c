@@ -10,10 +10,16 @@ enum { STACK = 4 << 20, MOST = 64 * 1024, MOST_LETTER = 128, WORK = EDITION_MAX_
    a buffer for the file, would pass unnoticed. */
 enum { MOST_WRITE = 4 * 1024 };
 
+/* The limit of hanoi_write, which keeps an automaton too, and calls itself for each of the 64 negations and parentheses that a label may have around
+   a place. What a label has inside those, and how many operands, is to make no difference. */
+enum { MOST_HANOI = 32 * 1024, LEVELS = 64, MILLION = 1000000 };
+
 static uint8_t work[WORK], word[WORD], entry[EDITION_ENTRY_BYTES];
 static const uint8_t zeros[EDITION_MAX_LASSO];
 static uint8_t longest[EDITION_MAX_FILE], out[EDITION_MAX_FILE];
 static size_t room; /* bytes of `out` that are lent */
+static char text[3 * MILLION];
+static size_t text_len;
 
 /* A call on two files: the second is offered to an entry that holds the first, where there is an entry. */
 struct call {
@@ -55,6 +61,12 @@ static void *verdict(void *arg) {
 static void *written(void *arg) {
     (void)arg;
     answer = file_write(longest, sizeof longest, out, room);
+    return NULL;
+}
+
+static void *hanoi(void *arg) {
+    (void)arg;
+    answer = hanoi_write((const uint8_t *)text, text_len, out, sizeof out);
     return NULL;
 }
 
@@ -183,6 +195,43 @@ static void write_calls(void) {
     room = sizeof out - 1, measured("file_write", written, &no_room, MOST_WRITE);
 }
 
+static void say(const char *bytes) {
+    size_t len = strlen(bytes);
+    memcpy(text + text_len, bytes, len), text_len += len;
+}
+
+/* A text with one label: so many times what opens, an operand, and so many times what closes. */
+static void label(const char *open, const char *inner, const char *close, size_t times) {
+    text_len = 0;
+    say("HOA: v1 States: 1 Start: 0 AP: 1 \"a\" Acceptance: 1 Inf(0) --BODY-- State: 0 [");
+    for (size_t i = 0; i < times; i++) say(open);
+    say(inner);
+    for (size_t i = 0; i < times; i++) say(close);
+    say("] 0 --END--");
+}
+
+/* Labels, each with the row whose stack it may not exceed; a row that names itself has the limit. */
+static const struct { const char *what, *open, *inner, *close; size_t times, like; uint64_t expected; } labels[] = {
+    {"the label 0", "", "0", "", 0, 0, EDITION_WROTE + (12 << 8)},
+    {"64 negations", "!", "0", "", LEVELS, 1, EDITION_WROTE + (12 << 8)},
+    {"64 pairs of parentheses", "(", "0", ")", LEVELS, 2, EDITION_WROTE + (12 << 8)},
+    {"64 pairs of parentheses, each behind & and |", "(f|t&", "0", ")", LEVELS, 3, EDITION_WROTE + (12 << 8)},
+    {"a million negations", "!", "0", "", MILLION, 1, 100 + EDITION_REFUSED_TEXT},
+    {"a million parentheses", "(", "0", "", MILLION, 2, 100 + EDITION_REFUSED_TEXT},
+    {"a million operands with & between them", "0&", "0", "", MILLION, 0, EDITION_WROTE + (12 << 8)},
+    {"a million operands with | between them", "0|", "0", "", MILLION, 0, EDITION_WROTE + (12 << 8)},
+};
+
+static void hanoi_calls(void) {
+    const struct file none = {{0}, 0};
+    long bytes[SIZE(labels)];
+    for (size_t i = 0; i < SIZE(labels); i++) {
+        const struct call call = {labels[i].what, none, none, 0, 0, 0, labels[i].expected, 0};
+        label(labels[i].open, labels[i].inner, labels[i].close, labels[i].times);
+        bytes[i] = measured("hanoi_write", hanoi, &call, labels[i].like < i ? bytes[labels[i].like] : MOST_HANOI);
+    }
+}
+
 int main(void) {
     automata();
     made.first = left[AGAIN], made.second = right[AGAIN], made.work_len = WORK, made.word_len = WORD;
@@ -193,5 +242,6 @@ int main(void) {
     offer_calls();
     plain_calls();
     write_calls();
+    hanoi_calls();
     return failures != 0;
 }

@@ -27,6 +27,8 @@ pub enum Call {
     },
     /// A write of a file with room for the longest one.
     Write { file: Vec<u8> },
+    /// A write of the automaton of a Hanoi text, with the same room.
+    Hanoi { text: Vec<u8> },
 }
 
 /// What calls write. It is filled once; later calls find what earlier ones left.
@@ -53,6 +55,14 @@ impl Buffers {
 }
 
 impl Call {
+    /// Bytes of the file or text that is to be written; 0 with other calls.
+    pub fn bytes(&self) -> usize {
+        match self {
+            Call::Write { file: input } | Call::Hanoi { text: input } => input.len(),
+            _ => 0,
+        }
+    }
+
     /// Makes the call and appends its numbers.
     pub fn make(&self, checker: &Checker, buffers: &mut Buffers) {
         let Buffers {
@@ -76,6 +86,7 @@ impl Call {
             }
             Call::Verdict { entry, stem, cycle } => numbers.push((checker.entry.verdict)(entry, stem, cycle)),
             Call::Write { file } => numbers.push((checker.write)(file, out)),
+            Call::Hanoi { text } => numbers.push((checker.hanoi)(text, out)),
         }
     }
 }

@@ -6,12 +6,16 @@ use edition::archive;
 /// First file, second file, bound, work, word.
 type ContainCall = fn(&[u8], &[u8], u64, &mut [u8], &mut [u8]) -> u64;
 
+type WriteCall = fn(&[u8], &mut [u8]) -> u64;
+
 pub struct Checker {
     pub name: &'static str,
     pub contain: ContainCall,
     pub entry: Calls,
     /// File, output.
-    pub write: fn(&[u8], &mut [u8]) -> u64,
+    pub write: WriteCall,
+    /// Text, output.
+    pub hanoi: WriteCall,
 }
 
 pub const KERNEL: Checker = Checker {
@@ -19,6 +23,7 @@ pub const KERNEL: Checker = Checker {
     contain: archive::contain,
     entry: Calls::KERNEL,
     write: archive::file_write,
+    hanoi: archive::hanoi_write,
 };
 
 pub const SECOND: Checker = Checker {
@@ -26,4 +31,5 @@ pub const SECOND: Checker = Checker {
     contain: second::contain,
     entry: Calls::SECOND,
     write: second::file_write,
+    hanoi: second::hanoi_write,
 };

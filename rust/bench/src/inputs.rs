@@ -1,7 +1,9 @@
 //! The automata, files and words of the rows. All are drawn from fixed seeds, so each run measures the same calls.
 
-use differential::automata::{everything, full, window, Plain};
+use differential::automata::{everything, full, window, worked, Plain};
+use differential::formulas::Formula;
 use differential::random::Random;
+use differential::texts::{Declared, Described};
 use second::lasso::MAX_LASSO;
 use second::walk::MAX_SLOTS;
 
@@ -14,6 +16,7 @@ const SPARSE_SEED: u64 = 0xBE4C_0003;
 const HISTORY_SEED: u64 = 0xBE4C_0004;
 const WORDS_SEED: u64 = 0xBE4C_0005;
 const WRITE_SEED: u64 = 0xBE4C_0006;
+const TEXT_SEED: u64 = 0xBE4C_0007;
 
 /// Calls of a row with small files.
 const SMALL_CALLS: usize = 32;
@@ -231,4 +234,70 @@ pub fn large_write(bytes: usize) -> Vec<Call> {
     let file = plain.shuffled_file(random);
     assert_eq!(file.len(), bytes);
     vec![Call::Write { file }]
+}
+
+/// A Hanoi text as translators print it: a line for each item, state and edge, blanks around `|` and nowhere else in a label.
+fn text(described: &Described) -> Vec<u8> {
+    let Described {
+        states,
+        start,
+        propositions,
+        declared,
+    } = described;
+    let names: String = (0..*propositions).map(|number| format!(" \"p{number}\"")).collect();
+    let mut text = format!("HOA: v1\nStates: {states}\nStart: {start}\nAP: {propositions}{names}\n");
+    text += "acc-name: Buchi\nAcceptance: 1 Inf(0)\n--BODY--\n";
+    for Declared { state, accepts, edges } in declared {
+        text += &format!("State: {state}{}\n", if *accepts { " {0}" } else { "" });
+        for (label, to) in edges {
+            text += "[";
+            label.spell(&mut |token| text += if token == "|" { " | " } else { token });
+            text += &format!("] {to}\n");
+        }
+    }
+    (text + "--END--\n").into_bytes()
+}
+
+fn hanoi(described: &Described) -> Vec<Call> {
+    let text = text(described);
+    vec![Call::Hanoi { text }]
+}
+
+/// F as a text.
+pub fn small_text() -> Vec<Call> {
+    let [(_, f), ..] = worked();
+    hanoi(&Described::of_plain(&f))
+}
+
+/// A text of so many states and edges, with labels of up to three levels; half of the states accept.
+pub fn drawn_text(states: usize, propositions: usize, edges: usize) -> Vec<Call> {
+    let random = &mut Random::new(TEXT_SEED, 0);
+    let mut edge = |_| (Formula::drawn(random, propositions, 3), random.below(states));
+    let declared = |state| Declared {
+        state,
+        accepts: state % 2 == 1,
+        edges: (0..edges / states).map(&mut edge).collect(),
+    };
+    hanoi(&Described {
+        states,
+        start: 0,
+        propositions,
+        declared: (0..states).map(declared).collect(),
+    })
+}
+
+/// A text with one edge, whose label is a chain of so many propositions.
+pub fn chain_text(operands: usize) -> Vec<Call> {
+    let operands = (0..operands).map(|place| Formula::Proposition(place % 4));
+    let edges = vec![(Formula::Or(operands.collect()), 0)];
+    hanoi(&Described {
+        states: 1,
+        start: 0,
+        propositions: 4,
+        declared: vec![Declared {
+            state: 0,
+            accepts: true,
+            edges,
+        }],
+    })
 }

@@ -3,7 +3,7 @@
 use json::Value;
 
 use crate::measure::Medians;
-use crate::rows::{slots_name, Row, SLOTS, WRITES};
+use crate::rows::{slots_name, Row, CHAINS, SLOTS, TEXTS, WRITES};
 
 /// What holds of the buffers in all rows.
 const BUFFERS: &str = "each checker has its own; filled once for each row and not cleared between runs";
@@ -17,7 +17,7 @@ const ROW_GOAL: f64 = 1.0;
 /// Highest time for a listed vertex at 4,096 slots, as a multiple of that at 64.
 const VERTEX_GOAL: f64 = 1.5;
 
-/// Highest time for a byte of the longest written file, as a multiple of that for one of half its length.
+/// Highest time for a byte of the longest written file, or of a large text, as a multiple of that for one of half its length.
 const BYTE_GOAL: f64 = 1.5;
 
 pub struct Report {
@@ -104,7 +104,7 @@ impl Goal {
         let Goal {
             what, measured, limit, ..
         } = self;
-        format!("goal: {what:<36} {measured:>6.2}, at most {limit:.1}: {met}")
+        format!("goal: {what:<38} {measured:>6.2}, at most {limit:.1}: {met}")
     }
 
     /// The goal's name and what is said of it.
@@ -133,15 +133,23 @@ impl Report {
         (logarithms / self.rows.len() as f64).exp()
     }
 
-    /// The kernel's time of the row.
-    fn time(&self, name: &str) -> f64 {
+    fn row(&self, name: &str) -> &Timed {
         let timed = self.rows.iter().find(|timed| timed.row.name == name);
-        timed.expect("the row is measured").medians.kernel
+        timed.expect("the row is measured")
+    }
+
+    /// The kernel's time for a byte of the second row's file or text, as a multiple of that of the first row.
+    fn byte_times(&self, rows: [(&str, usize); 2]) -> f64 {
+        let [half, whole] = rows.map(|(name, _)| {
+            let Timed { row, medians } = self.row(name);
+            medians.kernel / row.bytes() as f64
+        });
+        whole / half
     }
 
     /// The kernel's time of the call with so many slots.
     fn slots_time(&self, slots: usize) -> f64 {
-        self.time(&slots_name(slots))
+        self.row(&slots_name(slots)).medians.kernel
     }
 
     fn vertices(&self) -> [Vertex; SLOTS.len() - 1] {
@@ -157,23 +165,20 @@ impl Report {
         })
     }
 
-    fn goals(&self) -> [Goal; 5] {
+    fn goals(&self) -> [Goal; 7] {
         let [least, .., most] = self.vertices();
         let worst = self.ratios().fold(0.0, f64::max);
         let whole = most.whole / least.whole;
         let walk = most.walk / least.walk;
-        let [half, longest] = WRITES.map(|(name, bytes)| self.time(name) / bytes as f64);
+        let [write, text, chain] = [WRITES, TEXTS, CHAINS].map(|rows| self.byte_times(rows));
         [
             Goal::new("mean", "geometric mean of kernel/second", self.mean(), MEAN_GOAL),
             Goal::new("row", "highest kernel/second of a row", worst, ROW_GOAL),
             Goal::new("vertex", "time per vertex, 4,096 slots/64", whole, VERTEX_GOAL),
             Goal::new("vertex-walk", "the same without reading and checks", walk, VERTEX_GOAL),
-            Goal::new(
-                "byte",
-                "time per byte, 82,023 written/41,063",
-                longest / half,
-                BYTE_GOAL,
-            ),
+            Goal::new("byte", "time per byte, 82,023 written/41,063", write, BYTE_GOAL),
+            Goal::new("text-byte", "time per byte, 4,096 edges/2,048", text, BYTE_GOAL),
+            Goal::new("chain-byte", "time per byte, 100,000 operands/50,000", chain, BYTE_GOAL),
         ]
     }
 

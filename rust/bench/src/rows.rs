@@ -22,6 +22,12 @@ pub const SLOTS: [usize; 4] = [0, 64, 512, 4096];
 /// The rows that give the time for each written byte, and the bytes of their files.
 pub const WRITES: [(&str, usize); 2] = [("write-half", 41_063), ("write-longest", LONGEST)];
 
+/// The rows that give the time for each byte of a text with many edges, and their edges.
+pub const TEXTS: [(&str, usize); 2] = [("hanoi-half", 2_048), ("hanoi-large", 4_096)];
+
+/// The rows that give the time for each byte of a text with a long label, and its operands.
+pub const CHAINS: [(&str, usize); 2] = [("hanoi-half-chain", 50_000), ("hanoi-chain", 100_000)];
+
 /// The name of the row with so many slots.
 pub fn slots_name(slots: usize) -> String {
     format!("slots-{slots}")
@@ -29,10 +35,9 @@ pub fn slots_name(slots: usize) -> String {
 
 pub fn all() -> Vec<Row> {
     let slots = SLOTS.map(with_slots).into();
-    [by_size(), full(), slots, verdicts(), histories(), longest(), writes()]
-        .into_iter()
-        .flatten()
-        .collect()
+    let contains = [by_size(), full(), slots];
+    let others = [verdicts(), histories(), longest(), writes(), texts()];
+    contains.into_iter().chain(others).flatten().collect()
 }
 
 fn row(name: &str, what: &str, kind: u64, calls: Vec<Call>) -> Row {
@@ -108,7 +113,33 @@ fn writes() -> Vec<Row> {
     ]
 }
 
+fn texts() -> Vec<Row> {
+    let text = |name: &str, what: &str, calls: Vec<Call>| {
+        let mut row = row(name, what, 0, calls);
+        row.what = format!("hanoi_write, {what}, {} bytes", row.bytes());
+        row
+    };
+    let mut rows = vec![
+        text("hanoi-small", "F", inputs::small_text()),
+        text("hanoi-middle", "12 states, 60 edges", inputs::drawn_text(12, 3, 60)),
+    ];
+    for (name, edges) in TEXTS {
+        let what = format!("32 states, {edges} edges");
+        rows.push(text(name, &what, inputs::drawn_text(32, 4, edges)));
+    }
+    for (name, operands) in CHAINS {
+        let what = format!("a label of {operands}");
+        rows.push(text(name, &what, inputs::chain_text(operands)));
+    }
+    rows
+}
+
 impl Row {
+    /// The bytes that the calls read, of those that read a text or a file to write.
+    pub fn bytes(&self) -> usize {
+        self.calls.iter().map(Call::bytes).sum()
+    }
+
     /// Makes the row's calls with both checkers: the fault, if an answer is not of the row's kind or the two differ in an answer or a
     /// written byte.
     pub fn check(&self) -> Result<(), String> {

@@ -6,6 +6,8 @@ use std::path::{Path, PathBuf};
 use edition::{Argument, Refusal, Walk};
 use json::Value;
 
+use crate::given::Given;
+
 /// Contained, taken, opened, yes, written, shown.
 pub const YES: u8 = 0;
 /// Differs, forward, back, no.
@@ -24,6 +26,8 @@ pub struct Answer {
     pub text: String,
     /// What is said besides, on standard error, where the text is fixed.
     pub note: String,
+    /// Lines on what was read: below the text, or on standard error where standard output is for another form or for bytes.
+    pub besides: Vec<String>,
     pub fields: Vec<(&'static str, Value)>,
     /// A file's bytes, which people get on standard output in place of the text.
     pub bytes: Option<Vec<u8>>,
@@ -38,6 +42,7 @@ impl Answer {
             kind,
             text,
             note: String::new(),
+            besides: Vec::new(),
             fields: Vec::new(),
             bytes: None,
             replaced: None,
@@ -55,6 +60,27 @@ impl Answer {
         self.note = mem::take(&mut self.text);
         self.bytes = Some(bytes);
         self
+    }
+
+    /// The answer on these files, which says which of them are Hanoi texts.
+    pub fn on(self, files: &[&Given]) -> Answer {
+        let texts = files.iter().filter(|file| file.is_text).map(|file| file.operand);
+        match self.status {
+            FAILED => self,
+            _ => self.on_texts(&texts.collect::<Vec<_>>()),
+        }
+    }
+
+    /// The answer on Hanoi texts, if there are any: these operands.
+    pub fn on_texts(mut self, operands: &[&'static str]) -> Answer {
+        let texts = match operands {
+            [] => return self,
+            [_] => "a Hanoi text",
+            _ => "Hanoi texts",
+        };
+        self.besides.push(format!("read as {texts}: {}", operands.join(", ")));
+        let names = operands.iter().map(|&operand| Value::Text(operand.into()));
+        self.with("hanoi", Value::List(names.collect()))
     }
 
     /// The answer with one more field.
@@ -91,6 +117,14 @@ pub enum Failure {
     Replaced(String),
     /// A refusal of the checker.
     Refused(Refusal),
+    /// What is told whole already.
+    Told(Box<Answer>),
+}
+
+impl From<Box<Answer>> for Failure {
+    fn from(answer: Box<Answer>) -> Failure {
+        Failure::Told(answer)
+    }
 }
 
 impl From<Refusal> for Failure {
@@ -106,6 +140,7 @@ impl Failure {
             Failure::File(message) => (FAILED, "failed", message),
             Failure::Replaced(message) => (REPLACED, "replaced", message),
             Failure::Refused(refusal) => return refused(&refusal),
+            Failure::Told(answer) => return *answer,
         };
         Answer::new(status, kind, message.clone()).with("message", Value::Text(message))
     }
@@ -120,8 +155,10 @@ pub fn refused(refusal: &Refusal) -> Answer {
 pub fn advised(refusal: &Refusal, advice: String) -> Answer {
     let text = format!("refused {}: {refusal}\nwhat to do: {advice}", refusal.number());
     let mut answer = Answer::new(REFUSED, "refused", text).number("number", refusal.number());
-    if let Some(file) = refusal.file() {
-        answer = answer.number("file", if file == Argument::First { 1u8 } else { 2 });
+    match refusal.file() {
+        Some(Argument::First) => answer = answer.number("file", 1u8),
+        Some(Argument::Second) => answer = answer.number("file", 2u8),
+        Some(Argument::Text) | None => (),
     }
     if let Some(walk) = refusal.walk() {
         let name = if walk == Walk::Forward { "forward" } else { "back" };

@@ -5,6 +5,7 @@ use std::path::Path;
 
 use crate::answer::Failure;
 use crate::files::Source;
+use crate::given::Given;
 
 /// The form in which the answer is wanted.
 #[derive(Clone, Copy, PartialEq, Eq)]
@@ -13,10 +14,15 @@ pub enum Form {
     Json,
     Dot,
     Never,
+    Hoa,
 }
 
 /// The operand that stands for standard input.
 const INPUT: &str = "-";
+
+/// What is said of two forms at once.
+const FORMS: &str =
+    "--json, --dot, --never and --hoa ask for different forms of one answer: give one of them, or --hoa with --json";
 
 /// The words of the command line, options taken out.
 #[derive(Default)]
@@ -26,6 +32,10 @@ pub struct Arguments {
     pub help: bool,
     pub version: bool,
     pub slots: Option<u64>,
+    /// Whether the automaton is asked for as a Hanoi text.
+    pub hoa: bool,
+    /// Whether what has no effect on the automaton is to be taken out of a Hanoi text.
+    pub drop_extra: bool,
     form: Option<Form>,
 }
 
@@ -45,7 +55,10 @@ impl Arguments {
                 _ => arguments.words.push(word),
             }
         }
-        Ok(arguments)
+        match arguments.hoa && matches!(arguments.form, Some(Form::Dot | Form::Never)) {
+            true => Err(usage(FORMS)),
+            false => Ok(arguments),
+        }
     }
 
     fn option(&mut self, option: &str) -> Result<(), Failure> {
@@ -53,6 +66,8 @@ impl Arguments {
             "--json" => self.ask(Form::Json)?,
             "--dot" => self.ask(Form::Dot)?,
             "--never" => self.ask(Form::Never)?,
+            "--hoa" => self.hoa = true,
+            "--drop-extra" => self.drop_extra = true,
             "--help" | "-h" => self.help = true,
             "--version" => self.version = true,
             _ => match option.strip_prefix("--slots=") {
@@ -65,15 +80,14 @@ impl Arguments {
 
     fn ask(&mut self, form: Form) -> Result<(), Failure> {
         match self.form.replace(form) {
-            Some(other) if other != form => Err(usage(
-                "--json, --dot and --never ask for different forms of one answer: give one of them",
-            )),
+            Some(other) if other != form => Err(usage(FORMS)),
             _ => Ok(()),
         }
     }
 
+    /// The form of the answer; with --json and --hoa it is JSON.
     pub fn form(&self) -> Form {
-        self.form.unwrap_or(Form::Text)
+        self.form.unwrap_or(if self.hoa { Form::Hoa } else { Form::Text })
     }
 
     /// The command's name.
@@ -101,7 +115,12 @@ impl Arguments {
         self.operand(place) == INPUT
     }
 
-    /// The operand as an automaton file.
+    /// The operand, which is the one of this name, as an automaton file, or as a Hanoi text that one is made of.
+    pub fn given(&self, place: usize, name: &'static str) -> Result<Given, Failure> {
+        Given::read(self.source(place), name)
+    }
+
+    /// Where the operand, an automaton file or a Hanoi text, comes from.
     pub fn source(&self, place: usize) -> Source<'_> {
         match self.is_input(place) {
             true => Source::Input,

@@ -5,26 +5,33 @@ use edition::slots::{self, Slot};
 use edition::{Automaton, Buffers, Entry, Held, Offer, Outcome, Refusal, MAX_SLOTS};
 use json::Value;
 
-use crate::answer::{refused, spelled, Answer, Failure, NO, YES};
+use crate::answer::{spelled, Answer, Failure, NO, YES};
 use crate::arguments::{Arguments, Form};
+use crate::given::Given;
+use crate::hanoi::{extra, print};
 use crate::store::Store;
-use crate::{dot, listing, never, out};
+use crate::{dot, hanoi, listing, never, out};
 
 /// `listing FIRST OFFER BOUND`.
 pub fn list(arguments: &Arguments) -> Result<Answer, Failure> {
     let bound = arguments.bound(3)?;
-    listing::answer([arguments.source(1), arguments.source(2)], bound)
+    listing::answer([(arguments.source(1), "FIRST"), (arguments.source(2), "OFFER")], bound)
 }
 
 /// `contain FIRST SECOND BOUND`.
 pub fn contain(arguments: &Arguments) -> Result<Answer, Failure> {
     let bound = arguments.bound(3)?;
-    let (first, second) = (arguments.source(1).whole()?, arguments.source(2).whole()?);
+    let (first, second) = (arguments.given(1, "FIRST")?, arguments.given(2, "SECOND")?);
+    let result = contained(arguments, [&first.bytes, &second.bytes], bound);
+    Ok(result.unwrap_or_else(Failure::answer).on(&[&first, &second]))
+}
+
+fn contained(arguments: &Arguments, files: [&[u8]; 2], bound: u64) -> Result<Answer, Failure> {
     let slots = arguments
         .slots
         .map_or(MAX_SLOTS, |slots| slots.min(MAX_SLOTS as u64) as usize);
     let mut buffers = Buffers::with_slots(slots);
-    let (count, word) = match buffers.contain(&first, &second, bound)? {
+    let (count, word) = match buffers.contain(files[0], files[1], bound)? {
         Outcome::Contained { count } => (count, None),
         Outcome::Differs { count, word } => (count, Some(word.to_vec())),
     };
@@ -36,7 +43,7 @@ pub fn contain(arguments: &Arguments) -> Result<Answer, Failure> {
     };
     if arguments.form() == Form::Dot {
         let slots = slots::of_work(buffers.work(), count);
-        answer.text = walk_picture([&first, &second], bound as u8, &slots, word.as_deref())?;
+        answer.text = walk_picture(files, bound as u8, &slots, word.as_deref())?;
     }
     Ok(answer)
 }
@@ -51,10 +58,16 @@ fn walk_picture(files: [&[u8]; 2], bound: u8, slots: &[Slot], word: Option<&[u8]
 
 /// `open STORE FILE`.
 pub fn open(arguments: &Arguments) -> Result<Answer, Failure> {
-    let file = arguments.source(2).whole()?;
+    let file = arguments.given(2, "FILE")?;
+    Ok(opened(arguments, &file.bytes)
+        .unwrap_or_else(Failure::answer)
+        .on(&[&file]))
+}
+
+fn opened(arguments: &Arguments, file: &[u8]) -> Result<Answer, Failure> {
     let store = Store::at(arguments.path(1))?.lock_or_make(arguments.source(2))?;
     let mut entry = store.entry_or_fresh()?;
-    entry.open(&file)?;
+    entry.open(file)?;
     store.replace(&entry)?;
     let held = held(&entry)?;
     let text = format!("opened: edition {}, {} states", held.edition, held.automaton.states());
@@ -67,11 +80,16 @@ pub fn open(arguments: &Arguments) -> Result<Answer, Failure> {
 /// `offer STORE FILE BOUND`.
 pub fn offer(arguments: &Arguments) -> Result<Answer, Failure> {
     let bound = arguments.bound(3)?;
-    let file = arguments.source(2).whole()?;
+    let file = arguments.given(2, "FILE")?;
+    let result = offered(arguments, &file.bytes, bound);
+    Ok(result.unwrap_or_else(Failure::answer).on(&[&file]))
+}
+
+fn offered(arguments: &Arguments, file: &[u8], bound: u64) -> Result<Answer, Failure> {
     let store = Store::at(arguments.path(1))?.lock(arguments.source(2))?;
     let mut entry = store.entry()?;
     let mut buffers = Buffers::largest();
-    match buffers.offer(&mut entry, &file, bound)? {
+    match buffers.offer(&mut entry, file, bound)? {
         Offer::Taken { forward, back } => {
             store.replace(&entry)?;
             Ok(taken(&held(&entry)?, forward, back).replacing(arguments.path(1)))
@@ -126,11 +144,40 @@ pub fn verdict(arguments: &Arguments) -> Result<Answer, Failure> {
 
 /// `write FILE [OUT]`.
 pub fn write(arguments: &Arguments) -> Result<Answer, Failure> {
-    let file = arguments.source(1).whole()?;
-    let written = edition::write(&file);
-    if arguments.operands() == 1 {
-        return Ok(to_output(written));
+    match Given::of(arguments.source(1).whole()?, "FILE") {
+        Ok(file) => Ok(put(arguments, edition::write(&file.bytes)).on(&[&file])),
+        Err(failure) => Ok(put(arguments, Err(failure))),
     }
+}
+
+/// `hanoi TEXT [OUT]`.
+pub fn hanoi(arguments: &Arguments) -> Result<Answer, Failure> {
+    let text = arguments.source(1).whole()?;
+    if !arguments.drop_extra {
+        return Ok(put(arguments, hanoi::file_of(&text, "TEXT")));
+    }
+    let extras = extra::find(&text);
+    let mut answer = put(arguments, hanoi::file_of(&extra::without(&text, &extras), "TEXT"));
+    answer.besides.extend(hanoi::dropped_lines(&extras, &text));
+    Ok(answer.with("dropped", hanoi::dropped_values(&extras, &text)))
+}
+
+/// Puts a file into OUT, or where there is none onto standard output: nothing else may stand there, so a refusal is told beside it.
+fn put(arguments: &Arguments, written: Result<Vec<u8>, impl Into<Failure>>) -> Answer {
+    let written = written.map_err(Into::into);
+    if arguments.operands() == 2 {
+        return replaced(arguments, written).unwrap_or_else(Failure::answer);
+    }
+    match written {
+        Ok(bytes) => Answer::new(YES, "written", String::new())
+            .number("length", bytes.len() as u64)
+            .with("bytes", Value::Text(hexadecimal(&bytes)))
+            .giving(bytes),
+        Err(failure) => failure.answer().giving(Vec::new()),
+    }
+}
+
+fn replaced(arguments: &Arguments, written: Result<Vec<u8>, Failure>) -> Result<Answer, Failure> {
     let (bytes, place) = (written?, arguments.path(2));
     out::replace(place, &bytes, arguments.source(1))?;
     let text = format!("written: {} bytes", bytes.len());
@@ -139,33 +186,31 @@ pub fn write(arguments: &Arguments) -> Result<Answer, Failure> {
         .replacing(place))
 }
 
-/// The answer of a file that goes to standard output: nothing else may stand there, so a refusal is told beside it.
-fn to_output(written: Result<Vec<u8>, Refusal>) -> Answer {
-    match written {
-        Ok(bytes) => Answer::new(YES, "written", String::new())
-            .number("length", bytes.len() as u64)
-            .with("bytes", Value::Text(hexadecimal(&bytes)))
-            .giving(bytes),
-        Err(refusal) => refused(&refusal).giving(Vec::new()),
-    }
-}
-
 fn hexadecimal(bytes: &[u8]) -> String {
     bytes.iter().map(|byte| format!("{byte:02x}")).collect()
 }
 
-/// `show FILE|STORE`. What comes from standard input is an automaton file.
+/// `show FILE|STORE`. What comes from standard input is no STORE.
 pub fn show(arguments: &Arguments) -> Result<Answer, Failure> {
-    let (bytes, form) = (arguments.source(1).whole()?, arguments.form());
-    if arguments.is_input(1) || !Entry::is_meant(&bytes) {
-        let automaton = Automaton::from_file(&bytes)?;
-        let fixed = edition::write(&bytes)? == bytes;
-        let order = if fixed { "\nfixed form: yes" } else { "\nfixed form: no" };
-        let answer = Answer::new(YES, "automaton", described(&automaton, order)).with("fixed", Value::Truth(fixed));
-        return shown(answer, &automaton, form);
+    let bytes = arguments.source(1).whole()?;
+    if !arguments.is_input(1) && Entry::is_meant(&bytes) {
+        return show_entry(arguments, &bytes);
     }
-    match Entry::from_bytes(&bytes)?.held() {
-        None if matches!(form, Form::Dot | Form::Never) => Err(Failure::Refused(Refusal::Empty)),
+    let file = Given::of(bytes, "FILE")?;
+    Ok(show_file(arguments, &file).unwrap_or_else(Failure::answer).on(&[&file]))
+}
+
+fn show_file(arguments: &Arguments, file: &Given) -> Result<Answer, Failure> {
+    let automaton = Automaton::from_file(&file.bytes)?;
+    let fixed = !file.is_text && edition::write(&file.bytes)? == file.bytes;
+    let order = if fixed { "\nfixed form: yes" } else { "\nfixed form: no" };
+    let answer = Answer::new(YES, "automaton", described(&automaton, order)).with("fixed", Value::Truth(fixed));
+    shown(answer, &automaton, arguments)
+}
+
+fn show_entry(arguments: &Arguments, bytes: &[u8]) -> Result<Answer, Failure> {
+    match Entry::from_bytes(bytes)?.held() {
+        None if arguments.hoa || matches!(arguments.form(), Form::Dot | Form::Never) => Err(Refusal::Empty.into()),
         None => Ok(Answer::new(YES, "empty", "entry: empty".into())),
         Some(held) => {
             let Held {
@@ -176,16 +221,18 @@ pub fn show(arguments: &Arguments) -> Result<Answer, Failure> {
             let answer = Answer::new(YES, "entry", text)
                 .number("edition", edition)
                 .number("first_states", first_states);
-            shown(answer, &held.automaton, form)
+            shown(answer, &held.automaton, arguments)
         }
     }
 }
 
 /// The answer with the automaton's fields; where another form is asked for, that is its text.
-fn shown(mut answer: Answer, automaton: &Automaton, form: Form) -> Result<Answer, Failure> {
-    match form {
+fn shown(mut answer: Answer, automaton: &Automaton, arguments: &Arguments) -> Result<Answer, Failure> {
+    match arguments.form() {
         Form::Dot => answer.text = dot::automaton(automaton),
         Form::Never => answer.text = never::claim(automaton)?,
+        Form::Hoa => answer.text = print::text(automaton)?,
+        Form::Json if arguments.hoa => answer = answer.with("hoa", Value::Text(print::text(automaton)?)),
         Form::Text | Form::Json => (),
     }
     let transitions = automaton

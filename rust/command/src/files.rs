@@ -10,10 +10,10 @@ use std::path::Path;
 use crate::answer::Failure;
 
 /// Longer files are not read. The longest automaton file has 82,023 bytes: a header, 32 accepting records, 16,384 transitions and
-/// the end.
+/// the end. Hanoi texts have no longest one; with an edge for each of those transitions there is room for 60 bytes each.
 pub const LONGEST: u64 = 1 << 20;
 
-/// Where an automaton file comes from.
+/// Where an automaton file or a Hanoi text comes from.
 #[derive(Clone, Copy)]
 pub enum Source<'a> {
     /// Standard input.
@@ -34,13 +34,18 @@ impl fmt::Display for Source<'_> {
 impl Source<'_> {
     /// The bytes.
     pub fn whole(self) -> Result<Vec<u8>, Failure> {
-        let bytes = self.front(LONGEST + 1)?;
-        if bytes.len() as u64 > LONGEST {
-            return Err(Failure::File(format!(
-                "{self} is longer than any automaton file: over {LONGEST} bytes"
-            )));
+        self.front(LONGEST + 1).and_then(|bytes| self.limited(bytes))
+    }
+
+    /// These bytes, which are what comes from there up to some length, unless they are too many.
+    pub fn limited(self, bytes: Vec<u8>) -> Result<Vec<u8>, Failure> {
+        if bytes.len() as u64 <= LONGEST {
+            return Ok(bytes);
         }
-        Ok(bytes)
+        Err(Failure::File(match edition::is_hanoi(&bytes) {
+            true => format!("{self} is a Hanoi text of over {LONGEST} bytes: such long ones are not read"),
+            false => format!("{self} is longer than any automaton file: over {LONGEST} bytes"),
+        }))
     }
 
     /// The bytes, but not more than `length` of them.

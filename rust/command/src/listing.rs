@@ -3,6 +3,7 @@
 use std::env;
 use std::fs;
 use std::io::{self, Write};
+use std::mem;
 use std::path::{Path, PathBuf};
 use std::process::{self, Command, Stdio};
 
@@ -12,21 +13,34 @@ use json::Value;
 
 use crate::answer::{advised, refused, Answer, Failure, FAILED, NO, YES};
 use crate::files::Source;
+use crate::given::Given;
 
 /// The program reads this much of a file at most, one byte more than it accepts.
-const READ: u64 = 65537;
+const READ: usize = 65537;
 
 /// The slots of the program's work buffer of 65,520 bytes.
 const SLOTS: u16 = (65520 / SLOT_BYTES) as u16;
 
-/// The program's answer on the two files and the bound.
-pub fn answer([first, offer]: [Source; 2], bound: u64) -> Result<Answer, Failure> {
-    let files = [first.front(READ)?, offer.front(READ)?];
+/// The program's answer on the two files, given with their operands' names, and the bound. Of a Hanoi text it gets the automaton file
+/// that the kernel makes.
+pub fn answer([first, offer]: [(Source, &'static str); 2], bound: u64) -> Result<Answer, Failure> {
+    let read = |(source, operand)| Given::read_front(source, operand, READ);
+    let (first, offer) = (read(first)?, read(offer)?);
     let program = program().map_err(|error| Failure::File(format!("cannot find the program listing: {error}")))?;
-    let line = run(&program, &files, bound)
+    let line = run(&program, [&first.bytes, &offer.bytes], bound)
         .map_err(|error| Failure::File(format!("cannot run {}: {error}", program.display())))?;
-    read_line(line.trim_end())
-        .ok_or_else(|| Failure::File(format!("the program listing printed '{}'", line.trim_end())))
+    let answer = read_line(line.trim_end())
+        .ok_or_else(|| Failure::File(format!("the program listing printed '{}'", line.trim_end())))?;
+    Ok(told_beside(answer.on(&[&first, &offer])))
+}
+
+/// The answer with what is said besides on standard error, since the line is fixed.
+fn told_beside(mut answer: Answer) -> Answer {
+    let lines = [mem::take(&mut answer.note)]
+        .into_iter()
+        .chain(mem::take(&mut answer.besides));
+    answer.note = lines.filter(|line| !line.is_empty()).collect::<Vec<_>>().join("\n");
+    answer
 }
 
 /// The program: the one that EDITION_LISTING names, or the one that is installed beside this program.
@@ -40,7 +54,7 @@ fn program() -> io::Result<PathBuf> {
 /// What the program prints in a folder of its own; its input is one byte, the bound.
 ///
 /// A bound above 255 stands as 255: every bound above 14 is answered alike.
-fn run(program: &Path, [first, offer]: &[Vec<u8>; 2], bound: u64) -> io::Result<String> {
+fn run(program: &Path, [first, offer]: [&[u8]; 2], bound: u64) -> io::Result<String> {
     let folder = Folder::new()?;
     fs::write(folder.0.join("first.ba"), first)?;
     fs::write(folder.0.join("offer.ba"), offer)?;
@@ -142,6 +156,6 @@ fn refusal(line: &str, refusal: Refusal) -> Answer {
         other => refused(&other),
     };
     let mut answer = answer.with("line", Value::Text(line.into()));
-    answer.note = std::mem::replace(&mut answer.text, line.into());
+    answer.note = mem::replace(&mut answer.text, line.into());
     answer
 }

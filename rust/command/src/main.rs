@@ -7,6 +7,8 @@ mod arguments;
 mod commands;
 mod dot;
 mod files;
+mod given;
+mod hanoi;
 mod help;
 mod listing;
 mod never;
@@ -17,12 +19,13 @@ mod store;
 use std::env;
 use std::ffi::OsString;
 use std::io::{self, Write};
+use std::mem;
 use std::ops::RangeInclusive;
 use std::process::ExitCode;
 
 use answer::{Answer, Failure, FAILED, REFUSED, REPLACED, YES};
 use arguments::{asks_json, usage, Arguments, Form};
-use help::{Command, COMMANDS, NO_FILES, OUT, STORE};
+use help::{Choice, Command, COMMANDS, NO_FILES, OUT, STORE};
 use json::Value;
 
 fn main() -> ExitCode {
@@ -100,14 +103,9 @@ fn check(command: &Command, arguments: &Arguments) -> Result<(), String> {
     if !wanted.contains(&given) {
         return Err(format!("{} takes {}, not {given}", command.name, counted(&wanted)));
     }
-    if arguments.slots.is_some() && !command.slots {
-        return Err(format!("{} takes no --slots", command.name));
-    }
-    if arguments.form() == Form::Dot && !command.dot {
-        return Err(format!("{} draws no picture", command.name));
-    }
-    if arguments.form() == Form::Never && !command.never {
-        return Err(format!("{} prints no never claim", command.name));
+    let mut given = Choice::ALL.into_iter().filter(|choice| choice.is_given(arguments));
+    if let Some(choice) = given.find(|choice| !command.takes.contains(choice)) {
+        return Err(format!("{} {}", command.name, choice.untaken()));
     }
     check_names(command, arguments)?;
     check_input(command, arguments)
@@ -149,23 +147,37 @@ fn check_input(command: &Command, arguments: &Arguments) -> Result<(), String> {
     }
 }
 
-/// Prints the answer. For people, what failed goes to standard error, and so does a refusal where another form was asked for.
-fn print(answer: Answer, command: Option<&str>, form: Form) -> io::Result<()> {
+/// Prints the answer. For people, what failed goes to standard error, and so does a refusal where another form was asked for. Where standard
+/// output has bytes or another form, what is said besides goes to standard error too.
+fn print(mut answer: Answer, command: Option<&str>, form: Form) -> io::Result<()> {
     if form == Form::Json {
         return writeln!(io::stdout(), "{}", answer.json(command));
     }
-    if !answer.note.is_empty() {
-        writeln!(io::stderr(), "{}", answer.note)?;
+    let failed = matches!(answer.kind, "usage" | "failed" | "replaced");
+    let aside = failed || (form != Form::Text && answer.status == REFUSED);
+    let besides = mem::take(&mut answer.besides).join("\n");
+    let is_output_taken = answer.bytes.is_some() || (form != Form::Text && !aside);
+    let (beside, below) = match is_output_taken {
+        true => (joined(&answer.note, &besides), ""),
+        false => (answer.note, besides.as_str()),
+    };
+    if !beside.is_empty() {
+        writeln!(io::stderr(), "{beside}")?;
     }
     if let Some(bytes) = answer.bytes {
         let mut out = io::stdout().lock();
         return out.write_all(&bytes).and_then(|()| out.flush());
     }
-    let failed = matches!(answer.kind, "usage" | "failed" | "replaced");
-    let aside = failed || (form != Form::Text && answer.status == REFUSED);
+    let text = joined(answer.text.trim_end(), below);
     if aside {
-        writeln!(io::stderr(), "{}", answer.text.trim_end())
+        writeln!(io::stderr(), "{text}")
     } else {
-        writeln!(io::stdout(), "{}", answer.text.trim_end())
+        writeln!(io::stdout(), "{text}")
     }
+}
+
+/// Two texts on lines of their own, of which one may be empty.
+fn joined(first: &str, second: &str) -> String {
+    let texts = [first, second].into_iter().filter(|text| !text.is_empty());
+    texts.collect::<Vec<_>>().join("\n")
 }

@@ -8,7 +8,7 @@ use std::process::ExitCode;
 use std::time::Instant;
 
 use differential::tally::Tally;
-use differential::{containment, entries, listing, writing};
+use differential::{containment, entries, hanoi, listing, writing};
 
 /// Pairs of drawn files for contain.
 const PAIRS: usize = 800_000;
@@ -31,6 +31,15 @@ const WRITTEN: usize = 40_000;
 /// Spoilt files that are to be written.
 const DAMAGED: usize = 100_000;
 
+/// Drawn Hanoi texts.
+const TEXTS: usize = 15_000;
+
+/// Drawn Hanoi texts that get faults of which the first is known, each in four ways.
+const FAULTY: usize = 30_000;
+
+/// Drawn Hanoi texts that are spoilt, each in four ways.
+const SPOILT: usize = 30_000;
+
 /// Pairs of drawn files for the listing.
 const LISTED: usize = 2_500;
 
@@ -45,6 +54,9 @@ const EXAMPLES_SEED: u64 = 0x5EED_0008;
 const LISTED_SEED: u64 = 0x5EED_0009;
 const WRITTEN_SEED: u64 = 0x5EED_000A;
 const DAMAGED_SEED: u64 = 0x5EED_000B;
+const TEXTS_SEED: u64 = 0x5EED_000C;
+const FAULTY_SEED: u64 = 0x5EED_000D;
+const SPOILT_SEED: u64 = 0x5EED_000E;
 
 fn main() -> ExitCode {
     let arguments: Vec<String> = std::env::args().skip(1).collect();
@@ -52,7 +64,7 @@ fn main() -> ExitCode {
         [] => {
             let contain_passed = compare_contain();
             let entries_passed = compare_entries();
-            contain_passed & entries_passed & compare_writing()
+            contain_passed & entries_passed & compare_writing() & compare_hanoi()
         }
         [word] if word == "rehearse" => rehearse_entries(),
         [word, program, folder] if word == "listing" => compare_listing(program, folder),
@@ -138,6 +150,34 @@ fn compare_writing() -> bool {
         || writing::limits(&mut tally, LONGEST_SEED),
     );
     tally.conclude(&writing::OUTCOMES)
+}
+
+fn compare_hanoi() -> bool {
+    let mut tally = Tally::new("hanoi_write");
+    timed(&format!("hanoi_write: {TEXTS} texts, seed {TEXTS_SEED:#x}"), || {
+        hanoi::drawn_texts(&mut tally, TEXTS_SEED, TEXTS)
+    });
+    timed(
+        &format!("hanoi_write: {FAULTY} texts with known faults, four ways each, seed {FAULTY_SEED:#x}"),
+        || hanoi::faulty_texts(&mut tally, FAULTY_SEED, FAULTY),
+    );
+    timed(
+        &format!("hanoi_write: {SPOILT} texts spoilt, four ways each, seed {SPOILT_SEED:#x}"),
+        || hanoi::spoilt_texts(&mut tally, SPOILT_SEED, SPOILT),
+    );
+    timed(
+        &format!("hanoi_write: texts of F and G spoilt, seed {WORKED_SEED:#x}"),
+        || hanoi::worked_texts(&mut tally, WORKED_SEED),
+    );
+    timed(
+        &format!("hanoi_write: the longest labels, numbers and texts, seed {LONGEST_SEED:#x}"),
+        || {
+            hanoi::labels(&mut tally, LONGEST_SEED);
+            hanoi::long_numbers(&mut tally, LONGEST_SEED);
+            hanoi::limits(&mut tally, LONGEST_SEED);
+        },
+    );
+    tally.conclude(&hanoi::OUTCOMES)
 }
 
 fn compare_listing(program: &str, folder: &str) -> bool {

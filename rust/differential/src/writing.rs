@@ -1,4 +1,4 @@
-//! Files in the fixed form: the kernel against the second checker, and both against the files of drawn automata.
+//! Calls that write a file in the fixed form: the kernel against the second checker. Of `file_write`, both against the files of drawn automata.
 
 use edition::archive;
 use second::automaton::{MAX_LETTERS, MAX_STATES};
@@ -25,6 +25,25 @@ pub const OUTCOMES: [(u64, u64); 8] = [
 /// Bytes of the longest file.
 pub const LONGEST: usize = 82_023;
 
+/// A call that writes a file: what it takes, and the functions of both checkers.
+pub struct Call {
+    input: &'static str,
+    kernel: fn(&[u8], &mut [u8]) -> u64,
+    second: fn(&[u8], &mut [u8]) -> u64,
+}
+
+pub const FILE_WRITE: Call = Call {
+    input: "file",
+    kernel: archive::file_write,
+    second: second::file_write,
+};
+
+pub const HANOI_WRITE: Call = Call {
+    input: "text",
+    kernel: archive::hanoi_write,
+    second: second::hanoi_write,
+};
+
 /// What a call comes to.
 pub struct Answer {
     pub number: u64,
@@ -41,13 +60,13 @@ impl Answer {
 
 /// Calls both checkers with equal arguments and compares the number and every byte of the buffer and its guards. A refusal has to leave all
 /// bytes as they were, and a written file those past it. The answer is the second checker's.
-pub fn compare(random: &mut Random, tally: &mut Tally, name: &str, file: &[u8], room: usize) -> Answer {
-    let lent = Buffer::holding(random, file);
+pub fn compare(call: &Call, random: &mut Random, tally: &mut Tally, name: &str, input: &[u8], room: usize) -> Answer {
+    let lent = Buffer::holding(random, input);
     let kept = lent.clone();
     let before = Buffer::filled(random, room);
     let (mut kernel, mut second) = (before.clone(), before.clone());
-    let got = archive::file_write(lent.contents(), kernel.lent());
-    let number = second::file_write(file, second.lent());
+    let got = (call.kernel)(lent.contents(), kernel.lent());
+    let number = (call.second)(input, second.lent());
     let answer = Answer { number, out: second };
     tally.add(number & 0xFF, has_dead_states(&answer).into());
     let mut faults = Vec::new();
@@ -58,7 +77,7 @@ pub fn compare(random: &mut Random, tally: &mut Tally, name: &str, file: &[u8], 
         faults.push(format!("the buffer differs at {place}"));
     }
     if lent != kept {
-        faults.push("the file was written".to_string());
+        faults.push("the input was written".to_string());
     }
     let length = answer.file().map_or(0, <[u8]>::len);
     if answer.out.contents()[length..] != before.contents()[length..] {
@@ -66,7 +85,7 @@ pub fn compare(random: &mut Random, tally: &mut Tally, name: &str, file: &[u8], 
     }
     if !faults.is_empty() {
         let what = format!("{name}, {room} bytes of room: {}", faults.join("; "));
-        tally.disagree(&what, &[("file", file)]);
+        tally.disagree(&what, &[(call.input, input)]);
     }
     answer
 }
@@ -77,22 +96,22 @@ fn has_dead_states(answer: &Answer) -> bool {
     automaton.is_some_and(|automaton| dead_states(&automaton) != 0)
 }
 
-/// Compares a call whose answer is known: the file in order, if there is room for it.
-fn compare_known(random: &mut Random, tally: &mut Tally, name: &str, files: [&[u8]; 2], room: usize) {
-    let [file, in_order] = files;
-    let answer = compare(random, tally, name, file, room);
+/// Compares a call whose answer is known: the second file, which is in order, if there is room for it.
+pub fn compare_known(call: &Call, random: &mut Random, tally: &mut Tally, name: &str, files: [&[u8]; 2], room: usize) {
+    let [input, in_order] = files;
+    let answer = compare(call, random, tally, name, input, room);
     let is_known = match answer.file() {
         Some(written) => written == in_order,
         None => answer.number == 116 + ((in_order.len() as u64) << 8) && room < in_order.len(),
     };
     if !is_known {
         let what = format!("{name}, {room} bytes of room: second {}, or other bytes", answer.number);
-        tally.disagree(&what, &[("file", file), ("file in order", in_order)]);
+        tally.disagree(&what, &[(call.input, input), ("file in order", in_order)]);
     }
 }
 
 /// Lengths of a buffer about the length needed, and others.
-fn rooms(random: &mut Random, needed: usize) -> [usize; 6] {
+pub fn rooms(random: &mut Random, needed: usize) -> [usize; 6] {
     let more = random.between(2, 300);
     [0, 1, needed - 1, needed, needed + 1, needed + more]
 }
@@ -133,19 +152,19 @@ pub fn drawn_files(tally: &mut Tally, seed: u64, cases: usize) {
         let name = format!("file {case} of seed {seed:#x}");
         let (file, in_order) = (plain.shuffled_file(random), plain.file());
         for room in rooms(random, in_order.len()) {
-            compare_known(random, tally, &name, [&file, &in_order], room);
+            compare_known(&FILE_WRITE, random, tally, &name, [&file, &in_order], room);
         }
         let other = plain.shuffled_file(random);
         for (order, file) in [("another order", &other), ("in order", &in_order)] {
             let name = format!("{name}, {order}");
-            compare_known(random, tally, &name, [file, &in_order], in_order.len());
+            compare_known(&FILE_WRITE, random, tally, &name, [file, &in_order], in_order.len());
         }
         read_back(tally, &name, &plain, [&file, &in_order]);
     }
 }
 
 /// A length of a buffer about that of a file which may not be readable.
-fn draw_room(random: &mut Random, length: usize) -> usize {
+pub fn draw_room(random: &mut Random, length: usize) -> usize {
     random.pick(&[0, 1, length.saturating_sub(1), length, length + 1, length + 100])
 }
 
@@ -157,7 +176,7 @@ pub fn damaged_files(tally: &mut Tally, seed: u64, cases: usize) {
         let file = damaged(random, &file);
         let room = draw_room(random, file.len());
         let name = format!("damaged file {case} of seed {seed:#x}");
-        compare(random, tally, &name, &file, room);
+        compare(&FILE_WRITE, random, tally, &name, &file, room);
     }
 }
 
@@ -168,7 +187,14 @@ pub fn worked_files(tally: &mut Tally, seed: u64) {
         let file = plain.file();
         for length in 0..file.len() {
             let room = draw_room(random, length);
-            compare(random, tally, &format!("{name} cut to {length}"), &file[..length], room);
+            compare(
+                &FILE_WRITE,
+                random,
+                tally,
+                &format!("{name} cut to {length}"),
+                &file[..length],
+                room,
+            );
         }
         for place in 0..file.len() {
             for change in 1..=255 {
@@ -176,7 +202,7 @@ pub fn worked_files(tally: &mut Tally, seed: u64) {
                 changed[place] ^= change;
                 let room = draw_room(random, file.len());
                 let what = format!("{name} with byte {place} {:#04x}", changed[place]);
-                compare(random, tally, &what, &changed, room);
+                compare(&FILE_WRITE, random, tally, &what, &changed, room);
             }
         }
     }
@@ -190,7 +216,14 @@ pub fn limits(tally: &mut Tally, seed: u64) {
             for plain in [Plain::bare(states, letters, states - 1), full(states, letters)] {
                 let (file, in_order) = (plain.shuffled_file(random), plain.file());
                 for room in rooms(random, in_order.len()) {
-                    compare_known(random, tally, "no records, or all", [&file, &in_order], room);
+                    compare_known(
+                        &FILE_WRITE,
+                        random,
+                        tally,
+                        "no records, or all",
+                        [&file, &in_order],
+                        room,
+                    );
                 }
             }
         }
@@ -199,7 +232,7 @@ pub fn limits(tally: &mut Tally, seed: u64) {
     assert_eq!(longest.len(), LONGEST);
     for (place, file) in faulty(&longest).iter().enumerate() {
         for room in [0, LONGEST - 1, LONGEST, LONGEST + 100] {
-            let answer = compare(random, tally, "the longest file with a fault", file, room);
+            let answer = compare(&FILE_WRITE, random, tally, "the longest file with a fault", file, room);
             if answer.number != 101 + place as u64 {
                 let what = format!("the longest file with fault {}: second {}", place + 1, answer.number);
                 tally.disagree(&what, &[]);

@@ -41,6 +41,8 @@ mod exported {
         ) -> u64;
 
         pub fn file_write(file: *const u8, file_length: usize, out: *mut u8, out_length: usize) -> u64;
+
+        pub fn hanoi_write(text: *const u8, text_length: usize, out: *mut u8, out_length: usize) -> u64;
     }
 }
 
@@ -107,4 +109,10 @@ pub fn entry_verdict(entry: &[u8], stem: &[u8], cycle: &[u8]) -> u64 {
 pub fn file_write(file: &[u8], out: &mut [u8]) -> u64 {
     // SAFETY: as for contain.
     unsafe { exported::file_write(file.as_ptr(), file.len(), out.as_mut_ptr(), out.len()) }
+}
+
+/// The same of a Hanoi text: kind + 2^8 times length.
+pub fn hanoi_write(text: &[u8], out: &mut [u8]) -> u64 {
+    // SAFETY: as for contain.
+    unsafe { exported::hanoi_write(text.as_ptr(), text.len(), out.as_mut_ptr(), out.len()) }
 }

@@ -90,8 +90,8 @@ impl Entry {
         }
     }
 
-    /// Whether the bytes begin as an entry's do, or have the length of one and do not begin as an automaton file: what a program that
-    /// takes both kinds of file goes by. Whether they are an entry is judged by [`from_bytes`](Entry::from_bytes).
+    /// Whether the bytes begin as an entry's do, or have the length of one and begin neither as an automaton file nor as a Hanoi text:
+    /// what a program that takes all three kinds of file goes by. Whether they are an entry is judged by [`from_bytes`](Entry::from_bytes).
     ///
     /// ```
     /// use edition::Entry;

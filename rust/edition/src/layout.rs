@@ -43,11 +43,17 @@ pub(crate) fn records(file: &[u8]) -> impl Iterator<Item = Record> + '_ {
     })
 }
 
+/// Whether bytes are meant as a Hanoi text: every one begins with 48, white space aside, and no automaton file and no entry does.
+pub(crate) fn is_hanoi_meant(bytes: &[u8]) -> bool {
+    bytes.iter().find(|byte| !b" \t\n\r".contains(byte)) == Some(&b'H')
+}
+
 /// Whether bytes are meant as an entry: every automaton file begins with 41, and every entry with 00 or 01.
 pub(crate) fn is_entry_meant(bytes: &[u8]) -> bool {
     match bytes.first() {
         Some(0 | 1) => true,
         Some(b'A') | None => false,
+        Some(_) if is_hanoi_meant(bytes) => false,
         Some(_) => bytes.len() == ENTRY_BYTES,
     }
 }

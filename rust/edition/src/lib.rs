@@ -7,6 +7,7 @@
 //! | is every run prefix of one automaton followed by one of the other within a bound? | [`contain`], [`Buffers::contain`] |
 //! | an entry: open it, offer it a smaller edition, ask for a verdict | [`Entry`], [`Buffers::offer`] |
 //! | a file's automaton in the fixed form, the same bytes for the same automaton | [`write()`], [`write_into`] |
+//! | the automaton of a Hanoi text, as a file in the fixed form | [`from_hanoi`], [`from_hanoi_into`] |
 //! | why a call was refused, and what to do about it | [`Refusal`] |
 //! | the plain numbers | [`archive`] |
 //! | looking at automata and at walks, for display only | [`Automaton`], [`slots`], [`lag`] |
@@ -47,6 +48,7 @@ mod automaton;
 mod buffers;
 mod containment;
 mod entry;
+mod hanoi;
 pub mod lag;
 mod layout;
 mod refusal;
@@ -57,6 +59,7 @@ pub use automaton::Automaton;
 pub use buffers::Buffers;
 pub use containment::{contain, Outcome};
 pub use entry::{Entry, Held, Offer};
+pub use hanoi::{from_hanoi, from_hanoi_into, is_hanoi};
 pub use layout::ENTRY_BYTES;
 pub use refusal::{Argument, Refusal, Walk};
 pub use written::{write, write_into};

@@ -1,17 +1,19 @@
-//! The refusals: document 01's table, and the row that S-1 adds to it.
+//! The refusals: document 01's table, and the rows that S-1 and S-2 add to it.
 
 use std::error::Error;
 use std::fmt;
 
 use crate::MAX_SLOTS;
 
-/// Which of the two files of [`contain`](crate::contain) a refusal speaks of.
+/// What a refusal speaks of: one of the two files of [`contain`](crate::contain), or the text of [`from_hanoi`](crate::from_hanoi).
 #[derive(Clone, Copy, Debug, PartialEq, Eq)]
 pub enum Argument {
     /// The first file.
     First,
     /// The second file.
     Second,
+    /// The Hanoi text.
+    Text,
 }
 
 /// Which of the two walks of an offer a refusal speaks of.
@@ -25,7 +27,7 @@ pub enum Walk {
 
 /// Why a call was refused. A refused call has changed no entry, no word buffer and no output buffer.
 ///
-/// `file` is `None` where the call has one file only, `walk` is `None` where it makes one walk only.
+/// `file` is `None` where the call has one automaton file only, `walk` is `None` where it makes one walk only.
 ///
 /// ```
 /// use edition::{Argument, Buffers, Refusal};
@@ -48,12 +50,12 @@ pub enum Refusal {
         /// The file.
         file: Option<Argument>,
     },
-    /// 3: a header value is outside its range.
+    /// 3: a header value is outside its range; of a Hanoi text, States or Start.
     Header {
         /// The file.
         file: Option<Argument>,
     },
-    /// 4: a state or a letter is not in the header.
+    /// 4: a state or a letter is not in the header; of a Hanoi text, a state that is declared or is a target.
     Outside {
         /// The file.
         file: Option<Argument>,
@@ -101,6 +103,10 @@ pub enum Refusal {
         /// How many bytes the file needs.
         needed: u32,
     },
+    /// 17: the text is outside the subset of the Hanoi format, or has a proposition that AP lacks.
+    Text,
+    /// 18: the text has more than 4 propositions.
+    Propositions,
 }
 
 /// The values that stand beside a refusal's number.
@@ -114,7 +120,7 @@ pub(crate) struct Values {
 }
 
 impl Refusal {
-    /// The refusal of an answer's kind, 101 to 116, with the values that the answer gives.
+    /// The refusal of an answer's kind, 101 to 118, with the values that the answer gives.
     pub(crate) fn of_kind(kind: u64, values: Values) -> Refusal {
         let Values {
             file,
@@ -140,13 +146,15 @@ impl Refusal {
             114 => Refusal::NotSmaller,
             115 => Refusal::Lasso,
             116 => Refusal::Room { needed: room },
+            117 => Refusal::Text,
+            118 => Refusal::Propositions,
             _ => panic!("kind {kind} is no answer of the kernel: the archive is of another version"),
         }
     }
 
-    /// The refusal of a number alone, 1 to 16, as the program `listing` prints some: without file and walk, its count 0.
+    /// The refusal of a number alone, 1 to 18, as the program `listing` prints some: without file and walk, its count 0.
     pub fn from_number(number: u8) -> Option<Refusal> {
-        (1..=16)
+        (1..=18)
             .contains(&number)
             .then(|| Refusal::of_kind(100 + u64::from(number), Values::default()))
     }
@@ -170,10 +178,12 @@ impl Refusal {
             Refusal::NotSmaller => 14,
             Refusal::Lasso => 15,
             Refusal::Room { .. } => 16,
+            Refusal::Text => 17,
+            Refusal::Propositions => 18,
         }
     }
 
-    /// The file that the refusal speaks of, where the call has two.
+    /// The file that the refusal speaks of, where the call has two, or a Hanoi text where 3 or 4 speak of one.
     pub fn file(&self) -> Option<Argument> {
         match *self {
             Refusal::Ends { file }
@@ -204,8 +214,12 @@ impl Refusal {
         }
     }
 
-    fn row(&self) -> &'static [&'static str; 2] {
-        &ROWS[usize::from(self.number()) - 1]
+    fn row(&self) -> &'static Row {
+        match (self.number(), self.file()) {
+            (3, Some(Argument::Text)) => &TEXT_HEADER,
+            (4, Some(Argument::Text)) => &TEXT_STATE,
+            (number, _) => &ROWS[usize::from(number) - 1],
+        }
     }
 
     /// The text with the refusal's own file, walk and count.
@@ -214,6 +228,7 @@ impl Refusal {
             None => "the file",
             Some(Argument::First) => "the first file",
             Some(Argument::Second) => "the second file",
+            Some(Argument::Text) => "the text",
         };
         let walk = match self.walk() {
             None => "the walk",
@@ -240,8 +255,23 @@ impl fmt::Display for Refusal {
 
 impl Error for Refusal {}
 
-/// The table's rows in order: what is wrong, and what to do about it.
-const ROWS: [[&str; 2]; 16] = [
+/// What is wrong, and what to do about it.
+type Row = [&'static str; 2];
+
+/// Row 3 where it speaks of a Hanoi text.
+const TEXT_HEADER: Row = [
+    "{file} has States or Start outside its range",
+    "give States from 1 to 32, and a Start below States",
+];
+
+/// Row 4 where it speaks of a Hanoi text.
+const TEXT_STATE: Row = [
+    "{file} declares or leads to a state that States does not have",
+    "use only states below States, behind State: and as targets: they are numbered from 0",
+];
+
+/// The table's rows in order.
+const ROWS: [Row; 18] = [
     [
         "{file} ends inside a record or has no end record",
         "write the file again: it was cut short, or its end record 41 45 is missing",
@@ -295,5 +325,15 @@ const ROWS: [[&str; 2]; 16] = [
     [
         "the file has {count} bytes in the fixed form, and the output buffer is shorter",
         "give an output buffer of {count} bytes or more; 82,023 are always enough",
+    ],
+    [
+        "the text is outside the subset of the Hanoi format that is read, or has a proposition that AP lacks",
+        "write no header items but HOA: v1, States, Start, AP, acc-name: Buchi and Acceptance: 1 Inf(0), in this order (`ltl2tgba -B -H` \
+         prints name: and properties: too); accept on states, not on edges; give every edge a label and one target; leave out state \
+         names, aliases and comments",
+    ],
+    [
+        "the text has more than 4 propositions",
+        "use at most 4 propositions, so that there are at most 16 letters",
     ],
 ];

@@ -1,4 +1,4 @@
-use crate::refusal::Values;
+use crate::refusal::{Argument, Values};
 use crate::{archive, bits, Refusal, MAX_FILE};
 
 /// The file's automaton as a file in the fixed form: the header, the accepting states from the lowest up, the transitions by source,
@@ -15,11 +15,7 @@ use crate::{archive, bits, Refusal, MAX_FILE};
 /// # Ok::<(), edition::Refusal>(())
 /// ```
 pub fn write(file: &[u8]) -> Result<Vec<u8>, Refusal> {
-    let mut out = vec![0; MAX_FILE];
-    let length = write_into(file, &mut out)?;
-    out.truncate(length);
-    out.shrink_to_fit();
-    Ok(out)
+    whole(|out| write_into(file, out))
 }
 
 /// As [`write()`], to the front of a buffer: gives the length of the written file. Bytes past it keep their contents, and with a refusal
@@ -43,13 +39,27 @@ pub fn write(file: &[u8]) -> Result<Vec<u8>, Refusal> {
 /// let _ = edition::write_into(&file, &mut file);
 /// ```
 pub fn write_into(file: &[u8], out: &mut [u8]) -> Result<usize, Refusal> {
-    let number = archive::file_write(file, out);
+    length(archive::file_write(file, out), None)
+}
+
+/// What is written into a buffer that is long enough for every file.
+pub(crate) fn whole(into: impl FnOnce(&mut [u8]) -> Result<usize, Refusal>) -> Result<Vec<u8>, Refusal> {
+    let mut out = vec![0; MAX_FILE];
+    let length = into(&mut out)?;
+    out.truncate(length);
+    out.shrink_to_fit();
+    Ok(out)
+}
+
+/// The length that a number of `file_write` or `hanoi_write` gives, or the refusal, which speaks of `file`.
+pub(crate) fn length(number: u64, file: Option<Argument>) -> Result<usize, Refusal> {
     let length = bits(number, 8, 32) as u32;
     match bits(number, 0, 8) {
         0 => Ok(length as usize),
         kind => Err(Refusal::of_kind(
             kind,
             Values {
+                file,
                 room: length,
                 ..Values::default()
             },

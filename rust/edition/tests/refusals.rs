@@ -1,4 +1,4 @@
-//! Every row of the table of refusals but 16, by the calls that can give it; write.rs has 16.
+//! Every row of the table of refusals but 16 to 18, by the calls that can give it; write.rs has 16, hanoi.rs the rows of Hanoi texts.
 
 use edition::{contain, Argument, Buffers, Entry, Offer, Outcome, Refusal, Walk, ENTRY_BYTES};
 
@@ -121,15 +121,17 @@ fn entries_refuse_9_and_12_to_15() {
 fn every_number_has_a_sentence_and_advice_of_its_own() {
     let all: Vec<Refusal> = (0..=255).filter_map(Refusal::from_number).collect();
     let numbers: Vec<u8> = all.iter().map(Refusal::number).collect();
-    assert_eq!(numbers, (1..=16).collect::<Vec<u8>>());
+    let of_texts = [3, 4].map(|number| of_file(number, Some(Argument::Text)));
+    assert_eq!(numbers, (1..=18).collect::<Vec<u8>>());
     let mut texts: Vec<String> = all
         .iter()
+        .chain(&of_texts)
         .flat_map(|refusal| [refusal.to_string(), refusal.advice()])
         .collect();
     assert!(texts.iter().all(|text| text.len() > 10 && !text.contains(['{', '}'])));
     texts.sort();
     texts.dedup();
-    assert_eq!(texts.len(), 32);
+    assert_eq!(texts.len(), 40);
 }
 
 #[test]

@@ -3,11 +3,11 @@
 
 use std::sync::atomic::{AtomicU8, Ordering};
 
-/// Contain, open, offer, verdict, file_write.
-const CALLS: usize = 5;
+/// Contain, open, offer, verdict, file_write, hanoi_write.
+const CALLS: usize = 6;
 
-/// Three kinds and sixteen refusals.
-const KINDS: usize = 19;
+/// Three kinds and eighteen refusals.
+const KINDS: usize = 21;
 
 /// Parts of up to 16 bits, by their bits.
 const SIZES: usize = 17;
@@ -20,7 +20,7 @@ const PLACES: usize = CALLS * KINDS * SIZES * PARTS;
 #[link_section = "__libfuzzer_extra_counters"]
 static SEEN: [AtomicU8; PLACES] = [const { AtomicU8::new(0) }; PLACES];
 
-/// The call's place among the five.
+/// The call's place among the six.
 #[derive(Clone, Copy)]
 pub enum Call {
     Contain,
@@ -28,6 +28,7 @@ pub enum Call {
     Offer,
     Verdict,
     Write,
+    Hanoi,
 }
 
 /// Notes the number of a call: its kind, and three 16-bit parts above the kind.

@@ -1,8 +1,9 @@
-//! Any bytes as a list of calls on the kernel and on the second checker: contain, file_write, and open, offer and verdict on one entry, whose bytes
-//! may be changed between the calls. Every number and every byte of work, word, entry and output is compared.
+//! Any bytes as a list of calls on the kernel and on the second checker: contain, file_write, hanoi_write, and open, offer and verdict on one entry, whose
+//! bytes may be changed between the calls. Every number and every byte of work, word, entry and output is compared.
 
 mod answers;
 mod source;
+mod texts;
 
 use std::panic::catch_unwind;
 use std::process::abort;
@@ -11,7 +12,8 @@ use answers::{note, Call};
 use differential::entries::{Calls, History, Tallies};
 use differential::random::Random;
 use differential::tally::Tally;
-use differential::{containment, writing};
+use differential::writing::{self, FILE_WRITE, HANOI_WRITE};
+use differential::{containment, hanoi};
 use second::entry::LAST_EDITION;
 use second::ENTRY_BYTES;
 use source::Source;
@@ -24,6 +26,7 @@ pub struct Comparison {
     contain: Tally,
     entries: Tallies,
     write: Tally,
+    hanoi: Tally,
 }
 
 impl Default for Comparison {
@@ -32,6 +35,7 @@ impl Default for Comparison {
             contain: Tally::new("contain"),
             entries: Tallies::default(),
             write: Tally::new("file_write"),
+            hanoi: Tally::new("hanoi_write"),
         }
     }
 }
@@ -47,13 +51,15 @@ impl Comparison {
             }
             let tag = source.byte() % 32;
             match tag % 8 {
-                0..=2 if tag >= 24 => self.write(source),
+                0 if tag >= 24 => self.write(source),
+                1 | 2 if tag >= 24 => self.hanoi(source),
                 0..=2 => self.contain(source),
                 7 => forge(source, &mut entry),
                 tag => self.entry_call(source, &mut entry, tag),
             }
         }
-        self.contain.disagreements() + self.entries.disagreements() + self.write.disagreements() == 0
+        let tallies = [&self.contain, &self.write, &self.hanoi];
+        tallies.iter().all(|tally| tally.disagreements() == 0) && self.entries.disagreements() == 0
     }
 
     /// Prints the outcomes. True if every outcome of every call came up and nothing disagreed.
@@ -61,6 +67,7 @@ impl Comparison {
         self.contain.conclude(&containment::OUTCOMES)
             & self.entries.conclude()
             & self.write.conclude(&writing::OUTCOMES)
+            & self.hanoi.conclude(&hanoi::OUTCOMES)
     }
 
     fn contain(&mut self, source: &mut Source) {
@@ -80,8 +87,19 @@ impl Comparison {
     fn write(&mut self, source: &mut Source) {
         let file = source.shuffled_file();
         let room = source.room(file.len());
-        let answer = writing::compare(&mut Random::new(0, 0), &mut self.write, "input", &file, room);
+        let random = &mut Random::new(0, 0);
+        let answer = writing::compare(&FILE_WRITE, random, &mut self.write, "input", &file, room);
         note(Call::Write, answer.number);
+    }
+
+    /// With a buffer about as long as the file that the text comes to.
+    fn hanoi(&mut self, source: &mut Source) {
+        let text = source.text();
+        let needed = second::hanoi_write(&text, &mut []) >> 8;
+        let room = source.room(needed as usize);
+        let random = &mut Random::new(0, 0);
+        let answer = writing::compare(&HANOI_WRITE, random, &mut self.hanoi, "input", &text, room);
+        note(Call::Hanoi, answer.number);
     }
 
     /// Opens, offers or asks.

@@ -74,7 +74,8 @@ impl<'a> Source<'a> {
         }
     }
 
-    fn random(&mut self) -> Random {
+    /// Drawings that two bytes stand for.
+    pub fn random(&mut self) -> Random {
         Random::new(0, self.number())
     }
 

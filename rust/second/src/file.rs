@@ -3,10 +3,10 @@
 use crate::automaton::Automaton;
 use crate::refusal::Refusal;
 
-const HEADER: [u8; 2] = [0x41, 0x48];
+pub(crate) const HEADER: [u8; 2] = [0x41, 0x48];
 pub(crate) const ACCEPTING: [u8; 2] = [0x41, 0x46];
 pub(crate) const TRANSITION: [u8; 2] = [0x41, 0x54];
-const END: [u8; 2] = [0x41, 0x45];
+pub(crate) const END: [u8; 2] = [0x41, 0x45];
 
 /// The automaton that the file holds, or the refusal (1 to 5) of the first fault.
 pub fn read(file: &[u8]) -> Result<Automaton, Refusal> {

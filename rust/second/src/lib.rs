@@ -18,6 +18,7 @@
 //! | [`entry`] | Entry, open, offer |
 //! | [`listing`] | Listing |
 //! | [`write`] | S-1, the fixed form of a file |
+//! | [`hanoi`] | S-2, Hanoi files |
 //!
 //! Callers that hold plain bytes and numbers use the functions below. All but `listing` give one number, as document 01 says for
 //! `contain` and the vendors' boundary for the others.
@@ -30,6 +31,7 @@ pub mod contain;
 pub mod dead;
 pub mod entry;
 pub mod file;
+pub mod hanoi;
 pub mod lasso;
 pub mod listing;
 pub mod refusal;
@@ -38,5 +40,6 @@ pub mod write;
 
 pub use contain::contain;
 pub use entry::{entry_offer, entry_open, entry_verdict, Entry, ENTRY_BYTES};
+pub use hanoi::hanoi_write;
 pub use listing::listing;
 pub use write::file_write;

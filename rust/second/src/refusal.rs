@@ -7,9 +7,9 @@ pub enum Refusal {
     FileEnds,
     /// 2: a mark is unknown or misplaced, or bytes follow the end.
     Mark,
-    /// 3: a header value is outside its range.
+    /// 3: a header value is outside its range. In a Hanoi text: States or Start is.
     Header,
-    /// 4: a state or letter is not in the header.
+    /// 4: a state or letter is not in the header. In a Hanoi text: the number of a State or of a target is not below States.
     Outside,
     /// 5: an accepting or transition record is repeated.
     Repeated,
@@ -44,6 +44,10 @@ pub enum Refusal {
         /// The file's length.
         needed: usize,
     },
+    /// 17: the text is outside the subset of the Hanoi format, or has a proposition that AP lacks.
+    Text,
+    /// 18: there are more than 4 propositions.
+    Propositions,
 }
 
 impl Refusal {
@@ -66,6 +70,8 @@ impl Refusal {
             Refusal::NotSmaller => 14,
             Refusal::Lasso => 15,
             Refusal::Room { .. } => 16,
+            Refusal::Text => 17,
+            Refusal::Propositions => 18,
         }
     }
 

@@ -2,10 +2,11 @@
 //! to, and the end.
 //!
 //! A file that can be read repeats no record, so its fixed form has the same records and the same length. Nothing is sorted: the records
-//! are taken as the file has them, and each is copied to its own place, which follows from how many records go before it.
+//! are taken as the file has them, and each is copied to its own place, which follows from how many records go before it. An automaton
+//! that came from no file is written record by record.
 
-use crate::automaton::{singleton, Automaton, StateSet, MAX_LETTERS, MAX_STATES};
-use crate::file::{self, ACCEPTING, TRANSITION};
+use crate::automaton::{members, singleton, Automaton, StateSet, MAX_LETTERS, MAX_STATES};
+use crate::file::{self, ACCEPTING, END, HEADER, TRANSITION};
 use crate::refusal::Refusal;
 
 /// Bytes of a header.
@@ -23,7 +24,12 @@ const END_BYTES: usize = 2;
 /// Writes the file in the fixed form, with one number: kind + 2^8 length. Kind is 0 written, 100 plus a refusal's number. With 16 the
 /// length is the one needed, with other refusals 0.
 pub fn file_write(file: &[u8], out: &mut [u8]) -> u64 {
-    let (kind, length) = match write(file, out) {
+    number(write(file, out))
+}
+
+/// The number of a call that writes a file: its length, or the refusal.
+pub(crate) fn number(written: Result<usize, Refusal>) -> u64 {
+    let (kind, length) = match written {
         Ok(length) => (0, length as u64),
         Err(refusal) => (refusal.kind(), refusal.file_length()),
     };
@@ -42,6 +48,36 @@ pub fn write(file: &[u8], out: &mut [u8]) -> Result<usize, Refusal> {
     places.copy(records, front);
     front[needed - END_BYTES..].copy_from_slice(end);
     Ok(needed)
+}
+
+/// Writes the automaton in the fixed form to the front of the buffer and gives the file's length. The refusal is 16; it changes no byte.
+pub fn write_automaton(automaton: &Automaton, out: &mut [u8]) -> Result<usize, Refusal> {
+    let (accepting, transitions) = (automaton.accepting().count_ones(), automaton.transition_count());
+    let records = ACCEPTING_BYTES * accepting as usize + TRANSITION_BYTES * transitions as usize;
+    let needed = HEADER_BYTES + records + END_BYTES;
+    let mut rest = out.get_mut(..needed).ok_or(Refusal::Room { needed })?;
+    let header = [automaton.states(), automaton.letters(), automaton.initial()];
+    append(&mut rest, HEADER, header.map(|value| value as u8));
+    for state in members(automaton.accepting()) {
+        append(&mut rest, ACCEPTING, [state as u8]);
+    }
+    for from in 0..automaton.states() {
+        for letter in 0..automaton.letters() {
+            for to in members(automaton.transitions(letter)[from]) {
+                append(&mut rest, TRANSITION, [from, letter, to].map(|field| field as u8));
+            }
+        }
+    }
+    append(&mut rest, END, []);
+    Ok(needed)
+}
+
+/// Puts a record at the front of the rest, which then begins behind it.
+fn append<const N: usize>(rest: &mut &mut [u8], mark: [u8; 2], fields: [u8; N]) {
+    let (record, behind) = std::mem::take(rest).split_at_mut(mark.len() + N);
+    record[..2].copy_from_slice(&mark);
+    record[2..].copy_from_slice(&fields);
+    *rest = behind;
 }
 
 /// The places of an automaton's records in the fixed form.

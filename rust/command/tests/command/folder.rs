@@ -21,13 +21,13 @@ pub struct Run {
 }
 
 impl Folder {
-    /// A folder with the four worked automata of document 01, one with a dead state, one that accepts all words of two letters and
-    /// one that accepts those of letter 0.
+    /// A folder with the four worked automata of document 01, as files and as Hanoi texts, one with a dead state, one that accepts all
+    /// words of two letters and one that accepts those of letter 0.
     pub fn new(test: &str) -> Folder {
         let path = Path::new(env!("CARGO_TARGET_TMPDIR")).join(test);
         let _ = fs::remove_dir_all(&path);
         fs::create_dir_all(&path).expect("a folder");
-        for name in ["f.ba", "g.ba", "h.ba", "j.ba"] {
+        for name in ["f.ba", "g.ba", "h.ba", "j.ba", "f.hoa", "g.hoa", "h.hoa", "j.hoa"] {
             fs::copy(Path::new(ROOT).join("examples").join(name), path.join(name)).expect("an example");
         }
         let folder = Folder { path };

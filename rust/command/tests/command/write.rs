@@ -250,19 +250,18 @@ fn a_link_to_out_stays_a_link_and_permissions_stay() {
     );
 }
 
-/// Writes a file over itself, stopped at each of twenty calls in turn, of which the last are past its end. Gives the runs, and whether the file
-/// is in the fixed form after them.
-fn stopped(test: &str, how: &str) -> Vec<(Run, bool)> {
+/// Runs the words, which write J to a.ba, stopped at each of twenty calls in turn, of which the last are past their end; before each run a.ba
+/// has J in another form. Gives the runs, and whether a.ba has J's fixed form after them.
+fn stopped(test: &str, words: &[&str], how: &str) -> Vec<(Run, bool)> {
     let folder = Folder::new(test);
     let library = folder.stopper();
     let j = folder.read("j.ba");
-    let words = ["write", "a.ba", "a.ba"];
     let stop = |call| {
         folder.write("a.ba", MIXED);
-        let run = Run::of(folder.stopped(&words, &library, call, how).output().expect("a run"));
+        let run = Run::of(folder.stopped(words, &library, call, how).output().expect("a run"));
         let left = folder.read("a.ba");
         assert!(left == MIXED || left == j, "call {call} left a part of a file: {run:?}");
-        let again = folder.run(&words);
+        let again = folder.run(words);
         assert_eq!(again.out, "written: 20 bytes\n", "after call {call}: {again:?}");
         assert_eq!(folder.read("a.ba"), j, "after call {call}");
         assert_eq!(folder.names("a.ba"), ["a.ba"], "after call {call}");
@@ -271,9 +270,9 @@ fn stopped(test: &str, how: &str) -> Vec<(Run, bool)> {
     (1..=20).map(stop).collect()
 }
 
-#[test]
-fn a_kill_at_any_call_leaves_the_old_file_or_the_new_one() {
-    let runs = stopped("write_kill", "kill");
+/// A kill at any call leaves the old a.ba or the new one.
+pub fn survives_kills(test: &str, words: &[&str]) {
+    let runs = stopped(test, words, "kill");
     let renamed = runs.iter().position(|&(_, new)| new).expect("a kill after the rename");
     let ended = runs
         .iter()
@@ -286,10 +285,9 @@ fn a_kill_at_any_call_leaves_the_old_file_or_the_new_one() {
     }
 }
 
-/// A lock that cannot be removed does no harm and is not told; the next run removes it.
-#[test]
-fn a_fault_of_the_disk_is_told_and_leaves_the_old_file_or_says_that_it_is_replaced() {
-    let runs = stopped("write_fault", "fail");
+/// A fault of the disk is told and leaves the old a.ba, or it is told that the new one is in place.
+pub fn survives_faults(test: &str, words: &[&str]) {
+    let runs = stopped(test, words, "fail");
     for (run, new) in &runs {
         let told = run.err.contains("the new a.ba is in place");
         match run.status {
@@ -313,17 +311,16 @@ fn a_fault_of_the_disk_is_told_and_leaves_the_old_file_or_says_that_it_is_replac
     }
 }
 
-/// A fault or a kill at each of twenty calls in turn, of which the last are past the end.
-#[test]
-fn where_there_was_no_out_a_stop_leaves_none_or_the_whole_new_one() {
-    let folder = with_mixed("write_stop_new");
+/// Runs the words, which write J to new.ba, with a fault or a kill at each of twenty calls in turn, of which the last are past the end: that
+/// leaves no new.ba or the whole of it.
+pub fn survives_stops_without_out(test: &str, words: &[&str]) {
+    let folder = with_mixed(test);
     let library = folder.stopper();
     let (out, j) = (folder.path("new.ba"), folder.read("j.ba"));
-    let words = ["write", "mixed.ba", "new.ba"];
     for how in ["fail", "kill"] {
         let mut made = 0;
         for call in 1..=20 {
-            let run = Run::of(folder.stopped(&words, &library, call, how).output().expect("a run"));
+            let run = Run::of(folder.stopped(words, &library, call, how).output().expect("a run"));
             let whole = out.exists();
             assert!(
                 !whole || folder.read("new.ba") == j,
@@ -335,12 +332,28 @@ fn where_there_was_no_out_a_stop_leaves_none_or_the_whole_new_one() {
                 _ => assert!(how == "kill", "call {call}: {run:?}"),
             }
             made += usize::from(whole);
-            folder.answers("write mixed.ba new.ba", 0, "written: 20 bytes");
+            folder.answers(&words.join(" "), 0, "written: 20 bytes");
             assert_eq!(folder.names("new"), ["new.ba"], "after call {call}");
             fs::remove_file(&out).expect("OUT");
         }
         assert!((2..20).contains(&made), "{how}: {made} made");
     }
+}
+
+#[test]
+fn a_kill_at_any_call_leaves_the_old_file_or_the_new_one() {
+    survives_kills("write_kill", &["write", "a.ba", "a.ba"]);
+}
+
+/// A lock that cannot be removed does no harm and is not told; the next run removes it.
+#[test]
+fn a_fault_of_the_disk_is_told_and_leaves_the_old_file_or_says_that_it_is_replaced() {
+    survives_faults("write_fault", &["write", "a.ba", "a.ba"]);
+}
+
+#[test]
+fn where_there_was_no_out_a_stop_leaves_none_or_the_whole_new_one() {
+    survives_stops_without_out("write_stop_new", &["write", "mixed.ba", "new.ba"]);
 }
 
 #[test]

@@ -17,11 +17,11 @@ fn fails(folder: &Folder, words: &str, text: &str) {
 }
 
 /// Wrong lines, and what is said of them.
-const WRONG: [(&str, &str); 32] = [
+const WRONG: [(&str, &str); 44] = [
     ("", "usage:"),
     (
         "close s",
-        "there is no command close; the commands are listing, contain, open, offer, verdict, write, show",
+        "there is no command close; the commands are listing, contain, open, offer, verdict, write, hanoi, show",
     ),
     (
         "contain f.ba g.ba",
@@ -42,8 +42,15 @@ const WRONG: [(&str, &str); 32] = [
     ("contain f.ba g.ba 1 --never", "contain prints no never claim"),
     (
         "show f.ba --dot --never",
-        "--json, --dot and --never ask for different forms",
+        "--json, --dot, --never and --hoa ask for different forms",
     ),
+    (
+        "show f.ba --hoa --dot",
+        "--json, --dot, --never and --hoa ask for different forms",
+    ),
+    ("show f.ba --never --hoa", "or --hoa with --json"),
+    ("show f.ba --drop-extra", "show takes no --drop-extra"),
+    ("contain f.ba g.ba 1 --hoa", "contain prints no Hanoi text"),
     (
         "contain - - 1",
         "standard input is read once: give one - only\nusage: edition contain",
@@ -74,6 +81,17 @@ const WRONG: [(&str, &str); 32] = [
     ("write f.ba --slots 3", "write takes no --slots"),
     ("write f.ba s --dot", "write draws no picture"),
     ("write f.ba --never", "write prints no never claim"),
+    ("write f.ba --drop-extra", "write takes no --drop-extra"),
+    (
+        "hanoi",
+        "hanoi takes 1 or 2 operands, not 0\nusage: edition hanoi TEXT [OUT] [--drop-extra] [--json]",
+    ),
+    ("hanoi f.hoa s s", "hanoi takes 1 or 2 operands, not 3"),
+    ("hanoi f.hoa -", "OUT is the name of a file, and - is standard input"),
+    ("hanoi f.hoa --slots 3", "hanoi takes no --slots"),
+    ("hanoi f.hoa s --dot", "hanoi draws no picture"),
+    ("hanoi f.hoa s --hoa", "hanoi prints no Hanoi text"),
+    ("hanoi f.hoa --drop", "there is no option --drop"),
 ];
 
 #[test]
@@ -106,6 +124,9 @@ fn missing_and_unreadable_files_are_told() {
             "show NAME",
             "write NAME",
             "write NAME s",
+            "hanoi NAME",
+            "hanoi NAME s",
+            "hanoi NAME s --drop-extra",
         ] {
             fails(&folder, &words.replace("NAME", name), &text);
         }
@@ -129,6 +150,7 @@ fn a_folder_that_is_missing_and_a_lock_that_cannot_be_made_are_told() {
     ] {
         fails(&folder, &format!("open {name} f.ba"), text);
         fails(&folder, &format!("write f.ba {name}"), text);
+        fails(&folder, &format!("hanoi f.hoa {name}"), text);
     }
     assert_eq!(folder.names("s"), ["s.lock"]);
     assert_eq!(folder.names("none"), [""; 0]);
@@ -202,6 +224,8 @@ fn a_name_of_a_store_or_out_is_none_of_the_files_beside_it() {
         "open s.unfinished f.ba",
         "write f.ba s.lock",
         "write f.ba s.unfinished",
+        "hanoi f.hoa s.lock",
+        "hanoi f.hoa s.unfinished",
     ] {
         fails(
             &folder,
@@ -226,6 +250,7 @@ fn an_empty_name_is_no_store_and_no_out() {
         (&["verdict", "", "0", "0"], "STORE"),
         (&["write", "f.ba", ""], "OUT"),
         (&["write", "none.ba", ""], "OUT"),
+        (&["hanoi", "f.hoa", ""], "OUT"),
     ] {
         let run = folder.run(words);
         let text = format!("{operand} is the name of a file, and '' is none\nusage: ");
@@ -282,7 +307,9 @@ fn help_names_every_command_and_has_examples() {
     ] {
         assert!(all.out.contains(limit), "{limit}: {all:?}");
     }
-    for command in ["listing", "contain", "open", "offer", "verdict", "write", "show"] {
+    for command in [
+        "listing", "contain", "open", "offer", "verdict", "write", "hanoi", "show",
+    ] {
         let one = folder.run(&[command, "--help"]);
         let example = format!("  ./edition {command} ");
         assert!(

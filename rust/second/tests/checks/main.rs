@@ -7,6 +7,7 @@ mod definitions;
 mod entry;
 mod faulty;
 mod file;
+mod hanoi;
 mod lasso;
 mod listing;
 mod random;
