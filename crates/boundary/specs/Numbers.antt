@@ -1,5 +1,5 @@
 -- The numbers that vendors get for the answers of contain, open, offer and verdict (01, "Contain"; docs/reference.md, "The boundary for vendors"), and of
--- a call that writes a file (02, S-1).
+-- a call that writes a file, from a file or a Hanoi text (02, S-1 and S-2).
 --   outcomeNumber   kind + 2^8 count + 2^24 length; kind 0 contained, 1 differs, 100 + n refusal n; the count of 1-6 is the file's number,
 --                   that of 10 the slots; the length of 11 is what the word needs; a part that an answer lacks is 0
 --   openNumber      0 opened, 100 plus a refusal's number
@@ -8,7 +8,7 @@
 --                   place; the length of 11 is what the word needs; a part that an answer lacks is 0
 --   verdictNumber   0 no, 1 yes, 100 plus a refusal's number
 --   writeNumber     kind + 2^8 length; kind 0 written, 100 + n refusal n, 116 with the length needed
--- Shown by `contain-number`, `open-number`, `offer-number`, `verdict-number` and `write-number`. Assumes nothing.
+-- Shown by `contain-number`, `open-number`, `offer-number`, `verdict-number`, `write-number` and `hanoi-number`. Assumes nothing.
 use Prim.Native.Nat.{ℕ, _+_, _*_, _^_}
 use lib.Dec.{eqb}
 use mathlib.Core.Bool.{cond}

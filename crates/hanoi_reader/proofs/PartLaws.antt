@@ -34,15 +34,16 @@ use Rattle.hanoi.specs.Meaning.{withLetters, withPart, withParts, automatonOf, 
 use Rattle.hanoi.proofs.Described.{few-letters}
 use Rattle.hanoi.proofs.ReadSteps.{edge-first-step, edge-state-step, edge-again-step, declared-none, declared-state, declared-edge}
 use Rattle.hanoi.proofs.TokensRead.{check-read, check-refused}
-use Rattle.hanoi_reader.specs.declared.Header.{Header}
-use Rattle.hanoi_reader.specs.declared.Item.{Item}
-use Rattle.hanoi_reader.specs.declared.Item.the-variants.{Refused as ItemRefused, Value}
+use Rattle.hanoi_header.specs.declared.Header.{Header}
+use Rattle.hanoi_header.specs.declared.Item.{Item}
+use Rattle.hanoi_header.specs.declared.Item.the-variants.{Refused as ItemRefused, Value}
 use Rattle.hanoi_reader.specs.declared.Progress.{Progress}
 use Rattle.hanoi_reader.specs.declared.Progress.the-variants.{Refused, Whole, Declared, Goes}
-use Rattle.hanoi_reader.specs.Items.{onward, onwardValue}
-use Rattle.hanoi_reader.specs.Taking.{headOf, headedBy, InRanges, declaration, withMask, latestState, Held, Advanced, Taken}
-use Rattle.hanoi_reader.proofs.ItemLaws.{token-read, value-read, value-refused, there, not-there}
-use Rattle.hanoi_reader.proofs.HeaderLaws.{Checked, from-zero}
+use Rattle.hanoi_header.specs.Headers.{headedBy}
+use Rattle.hanoi_header.specs.Items.{onward, onwardValue}
+use Rattle.hanoi_reader.specs.Taking.{headOf, declaration, withMask, latestState, Held, Advanced, Taken}
+use Rattle.hanoi_header.proofs.ItemLaws.{token-read, value-read, value-refused, there, not-there}
+use Rattle.hanoi_header.proofs.HeaderLaws.{Checked, from-zero}
 use Rattle.hanoi_reader.proofs.LetterLaws.{letters-mask}
 
 -- The beginning: nothing is declared.

@@ -22,12 +22,13 @@ use Rattle.hanoi.proofs.Decided.{hanoi-grammar}
 use Rattle.hanoi.proofs.WellFormed.{header-next-well-formed, part-next-well-formed, hanoi-refusals, hanoi-describes}
 use Rattle.hanoi.proofs.HanoiCases.{hanoi-refused, hanoi-read}
 use Rattle.hanoi.proofs.HanoiTheorem.{hanoi-demand-1}
-use Rattle.hanoi_reader.specs.declared.Header.{Header}
-use Rattle.hanoi_reader.specs.declared.Start.{Start}
-use Rattle.hanoi_reader.specs.declared.Start.the-variants.{NoHeader, Begins}
+use Rattle.hanoi_header.specs.declared.Header.{Header}
+use Rattle.hanoi_header.specs.Headers.{headedBy, startStep, PastHeader}
+use Rattle.hanoi_header.specs.declared.Start.{Start}
+use Rattle.hanoi_header.specs.declared.Start.the-variants.{NoHeader, Begins}
 use Rattle.hanoi_reader.specs.declared.Progress.{Progress}
 use Rattle.hanoi_reader.specs.declared.Progress.the-variants.{Refused, Whole, Declared, Goes}
-use Rattle.hanoi_reader.specs.Taking.{headOf, headedBy, startStep, PastHeader, Headed, Held, Advanced, Taken, describedPast, describedBefore, ReadTo}
+use Rattle.hanoi_reader.specs.Taking.{headOf, Headed, Held, Advanced, Taken, describedPast, describedBefore, ReadTo}
 use Rattle.hanoi_reader.proofs.PartLaws.{held-starts}
 
 -- What the code holds between two steps.

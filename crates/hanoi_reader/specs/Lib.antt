@@ -1,3 +1,2 @@
 -- How the code holds a reading.
-pub mod Items
 pub mod Taking

@@ -2,12 +2,7 @@
 -- as a number, and no description at all. `Reading` of the crate `hanoi` says what a step is, and `Meaning` what automaton a description has. Only contracts
 -- of the reader name these.
 --   headOf h s          the head with the header h and the accepting states s
---   headedBy h          the description of the header h alone
---   InRanges h          the header's values are in their ranges
---   startStep x         what the header comes to, as a step of the reading
---   PastHeader s x      a header that is read is in its ranges, and ends in the text s or at its end
 --   Headed s h j        the header of s is h, and the body begins at place j
---   fromStart, fromPropositions   the header from an item on
 --   declaration s i q D   the declaration of state q, whose number ends at place i
 --   withLetter t q m r a  the bytes t with the transition from q on letter a to r, if bit a is set in m
 --   withMask t q m r n a  the same for the n letters from a on
@@ -29,42 +24,22 @@ use Rattle.automaton.specs.Sets.{bit, member}
 use Rattle.automaton.specs.Automata.{maxStates, wholeOf}
 use Rattle.automaton.specs.Members.{withBitFor}
 use Rattle.hanoi.specs.Descriptions.{Part, declared, edge, Described, headed, with-part}
-use Rattle.hanoi.specs.Reading.{maxPropositions, Read, refused, describes, Step, over, next, check, startItem, propositionsItem, headerEnd, header, isDeclared, acceptance, partAt}
+use Rattle.hanoi.specs.Reading.{Read, refused, describes, Step, over, next, check, header, isDeclared, acceptance, partAt}
 use Rattle.hanoi.specs.Meaning.{automatonOf}
-use Rattle.hanoi_reader.specs.declared.Header.{Header}
-use Rattle.hanoi_reader.specs.declared.Start.{Start}
-use Rattle.hanoi_reader.specs.declared.Start.the-variants.{NoHeader, Begins}
+use Rattle.hanoi_header.specs.declared.Header.{Header}
+use Rattle.hanoi_header.specs.declared.Start.the-variants.{Begins}
+use Rattle.hanoi_header.specs.Headers.{InRanges, startStep}
 use Rattle.hanoi_reader.specs.declared.Progress.{Progress}
 use Rattle.hanoi_reader.specs.declared.Progress.the-variants.{Refused, Whole, Declared, Goes}
 
 abbrev pub headOf : Header → List ℕ → Head
 headOf h s = record { states = h .states; letters = 2 ^ (h .propositions); initial = h .start; accepting = s }
 
-abbrev pub headedBy : Header → Described
-headedBy h = headed (h .states) (h .start) (h .propositions)
-
-abbrev pub InRanges : Header → Type 0
-InRanges h = (1 ≤ h .states) × (h .states ≤ maxStates) × (h .start < h .states) × (h .propositions ≤ maxPropositions)
-
-abbrev pub startStep : Start → Step
-startStep (NoHeader n) = over (refused n)
-startStep (Begins h j) = next j (headedBy h)
-
-unfoldable pub PastHeader : List ℕ → Start → Type 0
-PastHeader s (NoHeader n) = Unit {0}
-PastHeader s (Begins h j) = InRanges h × (1 ≤ j) × (j ≤ length s)
-
 pub record Headed (s : List ℕ) (h : Header) (j : ℕ) : Type 0 where
   pub step : startStep (Begins h j) ≡ header s
   pub in-ranges : InRanges h
   pub behind : 1 ≤ j
   pub within : j ≤ length s
-
-abbrev pub fromPropositions : List ℕ → ℕ → ℕ → ℕ → Step
-fromPropositions s n q i = propositionsItem s i (λ k i. headerEnd k s i (λ i. next i (headed n q k)))
-
-abbrev pub fromStart : List ℕ → ℕ → ℕ → Step
-fromStart s n i = startItem n s i (λ q i. fromPropositions s n q i)
 
 abbrev pub declaration : List ℕ → ℕ → ℕ → Described → Step
 declaration s i q D =

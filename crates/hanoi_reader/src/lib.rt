@@ -12,28 +12,10 @@ use automaton::Head;
 use automaton::power;
 use file::Reading;
 use fixed_form::WriteAnswer;
+use hanoi_header::Header;
+use hanoi_header::Start;
 
-mod items;
 mod parts;
-
-// A header's values.
-pub struct Header {
-    pub states: usize,
-    pub start: usize,
-    pub propositions: usize,
-}
-
-// What an item with a number comes to: a refusal, or the number and the place behind it.
-pub enum Item {
-    Refused(usize),
-    Value(usize, usize),
-}
-
-// What the header comes to: a refusal, or its values and the place behind `--BODY--`.
-pub enum Start {
-    NoHeader(usize),
-    Begins(Header, usize),
-}
 
 // What stands at a place of the body: a fault, the end, a state with the place behind it, or an edge, of which only that place is told.
 pub enum Progress {
@@ -107,7 +89,7 @@ fn read(text: &[u8], transitions: &mut [u8; 2048]) -> Reading
         ReadTo (now (text .entry)) (readHanoi (now (text .entry))) (r .refusal) (wholeOf (r .head) (now (transitions .exit)))
         ⌝ }
 {
-    match items::read_header(text) {
+    match hanoi_header::read_header(text) {
         Start::NoHeader(number) => {
             let nothing = Header {
                 states: 0,

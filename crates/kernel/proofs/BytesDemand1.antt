@@ -7,15 +7,16 @@ use mathlib.Core.List.{List}
 use Prim.Native.Nat.{ℕ, _^_, _<_}
 use native.Mathlib.Omega.{arith}
 use Rattle.fixed_form.proofs.WriteTheorem.{write-demand-1}
+use Rattle.hanoi.proofs.HanoiTheorem.{hanoi-demand-1}
 use Rattle.answers.proofs.ContainDemand.{contain-demand-1}
 use Rattle.history.proofs.CallDemands.{open-demand-1, offer-demand-1, verdict-demand-1}
 use Rattle.boundary.specs.Bytes.{isEntry, entryOf}
 use Rattle.kernel.specs.EntryCalls.{noEntry, openBytesNumber, openBytes, offerBytesNumber, offerBytes, offerBytesWork, offerBytesWord, verdictBytesNumber}
-use Rattle.kernel.specs.BytesDemand1.{ContainCallDemand1, EntryOpenDemand1, EntryOfferDemand1, EntryVerdictDemand1, FileWriteDemand1}
+use Rattle.kernel.specs.BytesDemand1.{ContainCallDemand1, EntryOpenDemand1, EntryOfferDemand1, EntryVerdictDemand1, FileWriteDemand1, HanoiWriteDemand1}
 use Rattle.boundary.proofs.OutcomeSizes.{outcome-fits}
 use Rattle.boundary.proofs.ContainNumber.{contain-number}
 use Rattle.boundary.proofs.AnswerNumbers.{open-number, offer-number, verdict-number}
-use Rattle.boundary.proofs.WriteNumber.{write-fits, write-number}
+use Rattle.boundary.proofs.WriteNumber.{write-fits, write-number, hanoi-fits, hanoi-number}
 use Rattle.kernel.proofs.EntryCallLaws.{open-number-fits, offer-number-fits, verdict-number-fits}
 
 -- a number that is that of no entry, or the answer's
@@ -69,3 +70,6 @@ entry-verdict-demand-1 s u v =
 
 pub file-write-demand-1 : (f out : List ℕ) → FileWriteDemand1 f out
 file-write-demand-1 f out = record { call = write-demand-1 f out; fits = write-fits f out; tells = write-number f out }
+
+pub hanoi-write-demand-1 : (s out : List ℕ) → HanoiWriteDemand1 s out
+hanoi-write-demand-1 s out = record { call = hanoi-demand-1 s out; fits = hanoi-fits s out; tells = hanoi-number s out }

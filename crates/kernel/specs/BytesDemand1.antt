@@ -1,8 +1,9 @@
 -- Demand 1 of the calls that vendors make. Contain: that of the call, and its number. The calls on an entry's bytes: bytes that are no entry
 -- are condition 9 and nothing changes; on the bytes of an entry the call has demand 1 of open, offer or verdict, opened and taken alone
 -- write the entry, and the number is the answer's. Every number fits 64 bits and tells the whole answer: no two answers that can occur
--- have the same one. The call that writes a file (02, S-1) has its demand 1, and a number likewise. Shown by `contain-call-demand-1`,
--- `entry-open-demand-1`, `entry-offer-demand-1`, `entry-verdict-demand-1` and `file-write-demand-1`. Assumes nothing.
+-- have the same one. The calls that write a file, from a file (02, S-1) or a Hanoi text (02, S-2), have their demand 1, and a number likewise. Shown by
+-- `contain-call-demand-1`, `entry-open-demand-1`, `entry-offer-demand-1`, `entry-verdict-demand-1`, `file-write-demand-1` and `hanoi-write-demand-1`. Assumes
+-- nothing.
 use mathlib.Core.Path.{_≡_}
 use mathlib.Core.Bool.{true, false}
 use mathlib.Core.List.{List}
@@ -13,6 +14,8 @@ use Rattle.slots.specs.Slots.{slotCount}
 use Rattle.fixed_form.specs.declared.WriteAnswer.{WriteAnswer}
 use Rattle.fixed_form.specs.Write.{writeOf}
 use Rattle.fixed_form.specs.WriteDemand.{WriteListed, WriteDemand1}
+use Rattle.hanoi.specs.Hanoi.{hanoiOf}
+use Rattle.hanoi.specs.HanoiDemand.{HanoiListed, HanoiDemand1}
 use Rattle.answers.specs.declared.Outcome.{Outcome}
 use Rattle.answers.specs.Contain.{outcomeOf}
 use Rattle.answers.specs.Demand1.{Listed, Demand1}
@@ -70,3 +73,10 @@ pub record FileWriteDemand1 (f out : List ℕ) : Type 0 where
   -- whatever the buffer's length: who has the number alone knows the answer
   pub tells : (room : ℕ) (x : WriteAnswer) → WriteListed room x
       → (writeNumber (writeOf f out .answer) ≡ writeNumber x) ↔ (writeOf f out .answer ≡ x)
+
+pub record HanoiWriteDemand1 (s out : List ℕ) : Type 0 where
+  pub call : HanoiDemand1 s out
+  pub fits : writeNumber (hanoiOf s out .answer) < 2 ^ 64
+  -- whatever the buffer's length
+  pub tells : (room : ℕ) (x : WriteAnswer) → HanoiListed room x
+      → (writeNumber (hanoiOf s out .answer) ≡ writeNumber x) ↔ (hanoiOf s out .answer ≡ x)

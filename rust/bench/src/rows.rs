@@ -113,10 +113,18 @@ fn writes() -> Vec<Row> {
     ]
 }
 
+/// The number with a comma before every three digits.
+fn grouped(number: usize) -> String {
+    match number {
+        0..=999 => number.to_string(),
+        _ => format!("{},{:03}", grouped(number / 1000), number % 1000),
+    }
+}
+
 fn texts() -> Vec<Row> {
     let text = |name: &str, what: &str, calls: Vec<Call>| {
         let mut row = row(name, what, 0, calls);
-        row.what = format!("hanoi_write, {what}, {} bytes", row.bytes());
+        row.what = format!("hanoi_write, {what}, {} bytes", grouped(row.bytes()));
         row
     };
     let mut rows = vec![
@@ -124,11 +132,11 @@ fn texts() -> Vec<Row> {
         text("hanoi-middle", "12 states, 60 edges", inputs::drawn_text(12, 3, 60)),
     ];
     for (name, edges) in TEXTS {
-        let what = format!("32 states, {edges} edges");
+        let what = format!("32 states, {} edges", grouped(edges));
         rows.push(text(name, &what, inputs::drawn_text(32, 4, edges)));
     }
     for (name, operands) in CHAINS {
-        let what = format!("a label of {operands}");
+        let what = format!("{} operands", grouped(operands));
         rows.push(text(name, &what, inputs::chain_text(operands)));
     }
     rows

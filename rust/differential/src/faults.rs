@@ -24,7 +24,7 @@ const STRANGE: [&[u8]; 12] = [
 /// Tokens, and what is nearly one.
 const SPARE: &str =
     "HOA: v1 States: Start: AP: acc-name: Buchi Acceptance: Inf --BODY-- State: --END-- t f ! & | ( ) { } [ ] \
-    0 1 2 4 5 31 32 33 00 01 \"\" \"a\" \"a HOA : v -- !! && (0) [t] {0} ! ( ! (";
+    0 1 2 4 5 31 32 33 00 01 \"\" \"a\" \"a HOA : v -- !! && (0) [t] {0}";
 
 /// Digits of a number above all limits: a power of ten, any, or one whose last bits are those of the value.
 fn draw_huge(random: &mut Random, value: usize) -> String {

@@ -75,22 +75,22 @@ pub fn spoilt_texts(tally: &mut Tally, seed: u64, cases: usize) {
     }
 }
 
-/// A text with one state, one proposition and this label, in front of what follows it.
-fn with_label(label: &str) -> Vec<u8> {
-    let header = "HOA: v1 States: 1 Start: 0 AP: 1 \"a\" Acceptance: 1 Inf(0) --BODY-- State: 0";
-    format!("{header} [{label}] 0 --END--").into_bytes()
+/// Compares a text whose automaton is known, with more room than it needs.
+fn compare_text(random: &mut Random, tally: &mut Tally, name: &str, text: &str, plain: &Plain) {
+    let files = [text.as_bytes(), &plain.file()];
+    compare_known(&HANOI_WRITE, random, tally, name, files, LONGEST);
 }
 
-/// Compares a text with this label, of which the letters are known, or that it is refused.
+/// Compares a text of one state and one edge, whose label is known to be true of these of two letters, or to be refused.
 fn compare_label(random: &mut Random, tally: &mut Tally, name: &str, label: &str, letters: Option<[bool; 2]>) {
-    let text = with_label(label);
+    let header = "HOA: v1 States: 1 Start: 0 AP: 1 \"a\" Acceptance: 1 Inf(0) --BODY--";
+    let text = format!("{header} State: 0 [{label}] 0 --END--");
     match letters {
-        None => compare_refused(random, tally, name, &text, 117),
+        None => compare_refused(random, tally, name, text.as_bytes(), 117),
         Some(letters) => {
             let mut plain = Plain::bare(1, 2, 0);
             plain.rows = letters.map(u32::from).to_vec();
-            let in_order = plain.file();
-            compare_known(&HANOI_WRITE, random, tally, name, [&text, &in_order], in_order.len());
+            compare_text(random, tally, name, &text, &plain);
         }
     }
 }
@@ -147,8 +147,8 @@ fn change_tokens(random: &mut Random, tally: &mut Tally, name: &str, tokens: &[T
     }
 }
 
-/// Labels nested up to the limit and beyond it, and long ones.
-pub fn labels(tally: &mut Tally, seed: u64) {
+/// Labels nested up to the limit and beyond it.
+pub fn nested_labels(tally: &mut Tally, seed: u64) {
     let random = &mut Random::new(seed, 0);
     for depth in MAX_DEPTH - 2..=MAX_DEPTH + 2 {
         for case in 0..200 {
@@ -162,12 +162,17 @@ pub fn labels(tally: &mut Tally, seed: u64) {
             compare_label(random, tally, &format!("{depth} deep"), &label, known);
         }
     }
+}
+
+/// Chains of many operands, and as many openings without an end.
+pub fn long_labels(tally: &mut Tally, seed: u64) {
+    let random = &mut Random::new(seed, 0);
+    let chains = [
+        ("0|", "f", [false, true]),
+        ("!0&", "t", [true, false]),
+        ("0&!0|", "t&0", [false, true]),
+    ];
     for count in [1, 1000, 100_000] {
-        let chains = [
-            ("0|", "f", [false, true]),
-            ("!0&", "t", [true, false]),
-            ("0&!0|", "t&0", [false, true]),
-        ];
         for (part, last, letters) in chains {
             let label = part.repeat(count) + last;
             compare_label(random, tally, "a long chain", &label, Some(letters));
@@ -192,78 +197,49 @@ pub fn long_numbers(tally: &mut Tally, seed: u64) {
             edges: vec![(Formula::Proposition(1), 0)],
         }],
     };
-    let whole = described.tokens(random);
-    for digits in [3, 19, 20, 39, 1000, 100_000] {
-        for place in (0..whole.len()).filter(|&place| whole[place].is_number()) {
-            let mut tokens = whole.clone();
-            let refused = match tokens[place].role {
-                Role::States | Role::Start => 103,
-                Role::State | Role::Target => 104,
-                Role::Count => 118,
-                _ => 117,
-            };
-            for first in ["1", "9", "0"] {
-                if tokens[place].is_number() {
-                    tokens[place].bytes = (first.to_string() + &"0".repeat(digits - 1)).into_bytes();
-                    let text = spelt(random, &tokens);
-                    let known = if first == "0" { 117 } else { refused };
-                    compare_refused(
-                        random,
-                        tally,
-                        &format!("{digits} digits at token {place}"),
-                        &text,
-                        known,
-                    );
-                }
+    let mut tokens = described.tokens(random);
+    for place in 0..tokens.len() {
+        let refused = match tokens[place].role {
+            Role::States | Role::Start => 103,
+            Role::State | Role::Target => 104,
+            Role::Count => 118,
+            _ if tokens[place].is_number() => 117,
+            _ => continue,
+        };
+        let kept = tokens[place].bytes.clone();
+        for digits in [3, 19, 20, 39, 1000, 100_000] {
+            for (first, known) in [(b'1', refused), (b'9', refused), (b'0', 117)] {
+                tokens[place].bytes = [&[first], vec![b'0'; digits - 1].as_slice()].concat();
+                let text = spelt(random, &tokens);
+                let name = format!("{digits} digits at token {place}");
+                compare_refused(random, tally, &name, &text, known);
             }
         }
+        tokens[place].bytes = kept;
     }
 }
 
-/// Texts of the longest file, with much white space, with long names and with many edges, and their buffers.
-pub fn limits(tally: &mut Tally, seed: u64) {
+/// Texts of the longest file, with many edges, with long names and with much white space.
+pub fn long_texts(tally: &mut Tally, seed: u64) {
     let random = &mut Random::new(seed, 0);
-    let longest = full(MAX_STATES, MAX_LETTERS).file();
-    let header = |names: &str| format!("HOA: v1 States: 32 Start: 0 AP: 4 {names} Acceptance: 1 Inf(0) --BODY--");
+    let whole = full(MAX_STATES, MAX_LETTERS);
     let edges: String = (0..MAX_STATES).map(|to| format!("[0&1|!1|!0]{to}")).collect();
-    let body: String = (0..MAX_STATES)
-        .map(|state| format!(" State: {state}{{0}}{edges}"))
-        .collect();
-    let text = format!("{}{body}--END--", header(r#""a""b""c""d""#));
+    let states = (0..MAX_STATES).map(|state| format!(" State: {state}{{0}}{edges}"));
+    let states: String = states.collect();
+    let text = |name: &str, white: &str, body: &str| {
+        let names = format!("\"{name}\"").repeat(4);
+        format!(
+            "{white}HOA: v1 States: 32 Start: 0 AP: 4 {names} Acceptance: 1 Inf(0) --BODY--{white}{body}--END--{white}"
+        )
+    };
+    let longest = text("a", "", &states);
     for room in rooms(random, LONGEST) {
-        compare_known(
-            &HANOI_WRITE,
-            random,
-            tally,
-            "the longest file",
-            [text.as_bytes(), &longest],
-            room,
-        );
+        let files = [longest.as_bytes(), &whole.file()];
+        compare_known(&HANOI_WRITE, random, tally, "the longest file", files, room);
     }
-    let name = format!("\"{}\"", "name of any length ".repeat(20_000));
-    let blank = " \n\t\r".repeat(50_000);
-    let again = "[t]31[3]0".repeat(20_000);
-    let plain = full(MAX_STATES, MAX_LETTERS);
-    for body in [&blank, &format!("{body} {blank}")] {
-        let text = format!("{blank}{}{body}--END--{blank}", header(&name.repeat(4)));
-        let bare = Plain::bare(MAX_STATES, MAX_LETTERS, 0).file();
-        let in_order = if body == &blank { &bare } else { &longest };
-        compare_known(
-            &HANOI_WRITE,
-            random,
-            tally,
-            "long parts",
-            [text.as_bytes(), in_order],
-            LONGEST,
-        );
-    }
-    let text = format!("{}{body}{again}--END--", header(r#""a""b""c""d""#));
-    compare_known(
-        &HANOI_WRITE,
-        random,
-        tally,
-        "many edges",
-        [text.as_bytes(), &plain.file()],
-        LONGEST,
-    );
+    let (name, white) = ("a long name ".repeat(20_000), " \n\t\r".repeat(50_000));
+    let edges = states + &"[t]31[3]0".repeat(20_000);
+    compare_text(random, tally, "long names", &text(&name, &white, &edges), &whole);
+    let bare = Plain::bare(MAX_STATES, MAX_LETTERS, 0);
+    compare_text(random, tally, "white space", &text(&name, &white, ""), &bare);
 }

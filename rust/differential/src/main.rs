@@ -172,9 +172,10 @@ fn compare_hanoi() -> bool {
     timed(
         &format!("hanoi_write: the longest labels, numbers and texts, seed {LONGEST_SEED:#x}"),
         || {
-            hanoi::labels(&mut tally, LONGEST_SEED);
+            hanoi::nested_labels(&mut tally, LONGEST_SEED);
+            hanoi::long_labels(&mut tally, LONGEST_SEED);
             hanoi::long_numbers(&mut tally, LONGEST_SEED);
-            hanoi::limits(&mut tally, LONGEST_SEED);
+            hanoi::long_texts(&mut tally, LONGEST_SEED);
         },
     );
     tally.conclude(&hanoi::OUTCOMES)

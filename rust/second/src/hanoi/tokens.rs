@@ -108,7 +108,7 @@ fn sign(byte: u8) -> Option<Token> {
     }
 }
 
-/// The number, name or word that the bytes begin with, and its length.
+/// The number, name or word that the bytes begin with, and its length. A letter or digit right behind another one begins none.
 fn longer(before: u8, rest: &[u8]) -> (Token, usize) {
     if before.is_ascii_alphanumeric() && rest[0].is_ascii_alphanumeric() {
         return (Token::Fault, 1);

@@ -3,7 +3,7 @@ use mathlib.Core.Path.{sym, _∙_}
 use native.Mathlib.Omega.{arith}
 use lib.Dec.{eqb}
 use borrow.Author.Tests.{eq-eqb, ne-eqb}
-use Rattle.hanoi_reader.proofs.ItemLaws.{past-value}
+use Rattle.hanoi_header.proofs.ItemLaws.{past-value}
 use Rattle.hanoi_reader.proofs.PartLaws.{declared-again, declare-refused, declare-accepting, declare-rejecting}
 use borrow.Author.Needs.{needs}
 use Rattle.hanoi_reader.proofs.parts.declare.Statement.{statement}

@@ -4,8 +4,8 @@ use native.Mathlib.Omega.{arith}
 use Prim.Native.Nat.{_+_}
 use Rattle.tokens.proofs.Places.{past-behind, past-from}
 use Rattle.hanoi.specs.Words.{zeroWord, rightBrace}
-use Rattle.hanoi_reader.specs.Items.{onward, onwardValue, PastValue}
-use Rattle.hanoi_reader.proofs.ItemLaws.{unmarked, is-marked, token-read, then-read, went-read, went-nowhere}
+use Rattle.hanoi_header.specs.Items.{onward, onwardValue, PastValue}
+use Rattle.hanoi_header.proofs.ItemLaws.{unmarked, is-marked, token-read, then-read, went-read, went-nowhere}
 use borrow.Author.Needs.{needs}
 use Rattle.hanoi_reader.proofs.parts.mark_at.Statement.{statement}
 use Rattle.hanoi_reader.proofs.parts.mark_at.Tie as tie

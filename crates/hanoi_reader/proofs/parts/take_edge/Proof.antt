@@ -4,7 +4,7 @@ use native.Mathlib.Omega.{arith}
 use Rattle.tokens.proofs.Places.{past-from}
 use Rattle.label_reader.proofs.CycleSteps.{forward-on}
 use Rattle.hanoi.proofs.Described.{few-letters}
-use Rattle.hanoi_reader.proofs.ItemLaws.{past-value}
+use Rattle.hanoi_header.proofs.ItemLaws.{past-value}
 use Rattle.hanoi_reader.proofs.PartLaws.{edge-unlabelled, edge-refused, edge-taken}
 use borrow.Author.Needs.{needs}
 use Rattle.hanoi_reader.proofs.parts.take_edge.Statement.{statement}

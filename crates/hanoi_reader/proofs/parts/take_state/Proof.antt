@@ -1,7 +1,7 @@
 -- `take_state` meets its contract: the number is read and tested, and the state declared. Assumes nothing.
 use Prim.Native.Nat.{_+_}
 use native.Mathlib.Omega.{arith}
-use Rattle.hanoi_reader.proofs.ItemLaws.{past-value}
+use Rattle.hanoi_header.proofs.ItemLaws.{past-value}
 use Rattle.hanoi_reader.proofs.PartLaws.{state-refused, state-taken}
 use borrow.Author.Needs.{needs}
 use Rattle.hanoi_reader.proofs.parts.take_state.Statement.{statement}

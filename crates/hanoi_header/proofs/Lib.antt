@@ -1,0 +1,3 @@
+-- Laws of the header.
+pub mod ItemLaws
+pub mod HeaderLaws

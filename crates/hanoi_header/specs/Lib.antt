@@ -1,0 +1,3 @@
+-- How the code holds the header.
+pub mod Items
+pub mod Headers
