@@ -23,8 +23,8 @@
 #include <stdint.h>
 
 /* The version: for people, and as a number to compare, 10000 * major + 100 * minor + patch. */
-#define EDITION_VERSION "0.4.0"
-#define EDITION_VERSION_NUMBER 400
+#define EDITION_VERSION "0.5.0"
+#define EDITION_VERSION_NUMBER 500
 
 #ifdef __cplusplus
 extern "C" {
