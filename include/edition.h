@@ -114,8 +114,8 @@ uint64_t file_write(const uint8_t *file, size_t file_len, uint8_t *out, size_t o
 
 /* Writes the automaton of a text in the Hanoi Omega-Automata format, version 1, in the fixed form. Of that format a subset is read: at
    most 32 states, one of them initial, and 4 propositions; Büchi acceptance on states; a label and one target for every edge. The
-   automaton has 2 to the power of the number of propositions as its letter count, and proposition 0 is the lowest bit of a letter. An
-   edge stands for every letter that makes its label true, and edges may overlap. The number has a kind and a length:
+   automaton has 2 to the power of the number of propositions as its letter count, and proposition 0 is the lowest bit of a letter. It
+   has a transition for each edge and each letter at which the edge's label is true; edges may overlap. The number has a kind and a length:
      EDITION_WROTE           length: the bytes of the file written, which stands in front in `out`
      refusals 3, 4, 17, 18   the text cannot be read, and this is its first fault; there is no length
      refusal 16              length: the bytes that `out` must have; tested after the others. An `out` of EDITION_MAX_FILE bytes is

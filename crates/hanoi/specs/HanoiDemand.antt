@@ -36,7 +36,7 @@ pub record TextReads (s : List ℕ) : Type 0 where
   pub grammar : (D : Described) → (readHanoi s ≡ describes D) ↔ IsFile s D
   -- it is refused with n exactly when its first fault is n
   pub faults : (n : ℕ) → (readHanoi s ≡ refused n) ↔ Fault s n
-  -- the automaton that is computed has the transitions that the labels' truth gives and no others, and there is no other such automaton
+  -- the automaton that is computed is the one that D describes, transition by transition, and there is no other
   pub automaton : (D : Described) → IsFile s D → IsDescribed D (automatonOf D)
   pub only : (D : Described) (A : Automaton) → IsFile s D → IsDescribed D A → A ≡ automatonOf D
 

@@ -4,6 +4,7 @@
 --                               parentheses around any of its places
 --   IsConjunction, IsDisjunction   the same of operands joined by `&`, and of these joined by `|`
 --   IsLabel s k i L j           from place i to place j stands the label L
+-- The bytes are 21 `!`, 26 `&`, 28 `(`, 29 `)`, 66 f, 74 t and 7C `|`.
 -- Shown by `label-grammar`. Assumes nothing.
 use mathlib.Core.List.{List}
 use Prim.Native.Nat.{ℕ, suc, _<_}

@@ -6,6 +6,7 @@
 --   conjunction s f i    operands joined by `&`, where f reads an operand at a place
 --   disjunction s f i    conjunctions joined by `|`
 --   labelAt s k i     the label at place i
+-- The bytes are 21 `!`, 26 `&`, 28 `(`, 29 `)`, 66 f, 74 t and 7C `|`.
 -- Shown by `label-grammar`: the reader reads the labels of `LabelGrammar`, and no others. Assumes nothing.
 use mathlib.Core.Bool.{Bool, true, false}
 use mathlib.Core.List.{List}

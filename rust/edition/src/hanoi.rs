@@ -4,8 +4,8 @@ use crate::{archive, layout, Argument, Refusal};
 /// The automaton of a Hanoi text as a file in the fixed form, see [`write()`](crate::write()), which the other calls take.
 ///
 /// The text is of the subset of the Hanoi Omega-Automata format, version 1, that the repository's reference describes: at most 32
-/// states and 4 propositions, Büchi acceptance on states, and a label for each edge. An edge stands for the letters that make its label
-/// true; proposition 0 is the lowest bit of a letter. Dead states do not matter. Refusals: 17, 18, 3 and 4, by what stands first in the text.
+/// states and 4 propositions, Büchi acceptance on states, and a label for each edge. An edge gives a transition for each letter at
+/// which its label is true; bit 0 of a letter is proposition 0. Dead states do not matter. Refusals: 17, 18, 3 and 4, by what stands first in the text.
 ///
 /// ```
 /// let text = br#"HOA: v1 States: 2 Start: 0 AP: 1 "p" acc-name: Buchi Acceptance: 1 Inf(0)

@@ -21,7 +21,7 @@ pub struct Fault {
 }
 
 const ORDER: &str = "write the header items HOA: v1, States, Start, AP, acc-name: Buchi (or leave this one out), Acceptance: 1 Inf(0), \
-                     once each, in this order";
+                     in this order and each only once";
 const ON_STATES: &str =
     "have the translator make a Büchi automaton with acceptance on states, as `ltl2tgba -B -H` does: Acceptance: 1 \
                          Inf(0), and {0} behind the number of each accepting state";

@@ -5,7 +5,7 @@ use crate::refusal::Refusal;
 /// Stands for every number of three digits and more: all are above what a text may say anywhere.
 const LARGE: u8 = u8::MAX;
 
-/// What stands between white space, or beside another token. A word with its colon is one.
+/// What stands between white space, or beside another token. A colon is part of the word before it.
 #[derive(Clone, Copy, Debug, PartialEq, Eq)]
 pub enum Token {
     /// `HOA:`
