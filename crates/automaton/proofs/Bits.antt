@@ -5,10 +5,10 @@ use mathlib.Core.Bool.{Bool, true, false, _&&_, _||_}
 use mathlib.Core.Logic.{_⊎_, inl, inr, ⊎-elim, _↔_}
 use mathlib.Core.List.{List}
 use Prim.Native.Nat.{ℕ, zero, suc, _/_, _%_, _^_, _≤_, _<_}
-use native.Mathlib.Nat.{pow-suc, one-le-pow, mul-div-mul-right, mul-mod-left, div-one, div-eq-of-lt, zero-div}
+use native.Mathlib.Nat.{pow-suc, pow-succ', one-le-pow, mul-div-mul-right, mul-mod-left, div-one, div-div-eq-div-mul, div-eq-of-lt, zero-div}
 use native.Mathlib.Omega.{arith}
 use borrow.Author.Tests.{eq-eqb, eqb-true, eqb-false}
-use lib.Bits.{bitOr, or-shr, or-mod, or-zero-l}
+use lib.Bits.{bitAnd, bitOr, and-shr, and-mod, and-zero-l, or-shr, or-mod, or-zero-l}
 use lib.Dec.{T, eqb, ltb, lt→ltb, eqb→eq, eqb-refl, eqb·zero-suc, eqb·suc-zero, eqb·suc-suc}
 use lib.ListN.{length, getD, set, replicate, length-set, length-replicate}
 use lib.Seq.{getD-set-same, getD-set-other}
@@ -31,6 +31,24 @@ bit-or w v j =
     go (suc zero) (suc zero) h k = refl
     go (suc zero) (suc (suc y)) h k = absurd (omega arith)
     go (suc (suc x)) y h k = absurd (omega arith)
+
+pub bit-and : (w v j : ℕ) → bit (bitAnd w v) j ≡ (bit w j && bit v j)
+bit-and w v j =
+    ap (λ (x : ℕ). eqb x 1) (ap (λ (x : ℕ). x % 2) (and-shr w v j) ∙ and-mod (w / 2 ^ j) (v / 2 ^ j) 1)
+    ∙ go (w / 2 ^ j % 2) (v / 2 ^ j % 2) (omega arith) (omega arith)
+  where
+    go : (x y : ℕ) → x < 2 → y < 2 → eqb (bitAnd x y) 1 ≡ (eqb x 1 && eqb y 1)
+    go zero y h k = ap (λ (z : ℕ). eqb z 1) (and-zero-l y)
+    go (suc zero) zero h k = refl
+    go (suc zero) (suc zero) h k = refl
+    go (suc zero) (suc (suc y)) h k = absurd (omega arith)
+    go (suc (suc x)) y h k = absurd (omega arith)
+
+pub bit-half : (w i : ℕ) → bit w (suc i) ≡ bit (w / 2) i
+bit-half w i = sym (ap (λ (x : ℕ). eqb (x % 2) 1) (div-div-eq-div-mul w 2 (2 ^ i) ∙ ap (λ (x : ℕ). w / x) (sym (pow-succ' 2 i))))
+
+pub bit-first : (w : ℕ) → bit w 0 ≡ eqb (w % 2) 1
+bit-first w = ap (λ (x : ℕ). eqb (x % 2) 1) (div-one w)
 
 -- 2 ^ i has bit i alone
 pub bit-power : (i j : ℕ) → bit (2 ^ i) j ≡ eqb i j

@@ -3,7 +3,7 @@
 use mathlib.Core.Path.{_≡_, refl, sym, ap, subst, _∙_}
 use mathlib.Core.List.{List}
 use Prim.Native.Nat.{ℕ, zero, suc, _+_, _*_, _/_, _%_, _^_, _<_}
-use native.Mathlib.Nat.{pow-succ', div-div-eq-div-mul, div-one}
+use native.Mathlib.Nat.{pow-succ'}
 use native.Mathlib.Omega.{arith}
 use lib.Dec.{T, eqb, ltb, lt→ltb}
 use lib.ListN.{getD}
@@ -12,17 +12,15 @@ use Rattle.automaton.specs.declared.Automaton.{Automaton}
 use Rattle.automaton.specs.Sets.{Bytes, bit, member}
 use Rattle.automaton.specs.Automata.{maxStates, maxLetters, accepts, place, transitionBit, transition, InRange}
 use Rattle.automaton.proofs.Booleans.{and-both, both-and, same-test, clash}
+use Rattle.automaton.proofs.Bits.{bit-half, bit-first}
 use Rattle.automaton.proofs.Transitions.{transition-parts, parts-transition}
 
 -- Bytes by their bits.
 
-half-bit : (w i : ℕ) → bit (w / 2) i ≡ bit w (suc i)
-half-bit w i = ap (λ (x : ℕ). eqb (x % 2) 1) (div-div-eq-div-mul w 2 (2 ^ i) ∙ ap (λ (x : ℕ). w / x) (sym (pow-succ' 2 i)))
-
 low-bit : (w v : ℕ) → bit w 0 ≡ bit v 0 → w % 2 ≡ v % 2
 low-bit w v e =
     go (w % 2) (v % 2) (omega arith) (omega arith)
-    (sym (ap (λ (x : ℕ). eqb (x % 2) 1) (div-one w)) ∙ e ∙ ap (λ (x : ℕ). eqb (x % 2) 1) (div-one v))
+    (sym (bit-first w) ∙ e ∙ bit-first v)
   where
     go : (x y : ℕ) → x < 2 → y < 2 → eqb x 1 ≡ eqb y 1 → x ≡ y
     go zero zero h k d = refl
@@ -37,7 +35,7 @@ pub same-bits : (n w v : ℕ) → w < 2 ^ n → v < 2 ^ n → ((i : ℕ) → i <
 same-bits zero w v hw hv e = omega arith
 same-bits (suc n) w v hw hv e =
     let p = pow-succ' 2 n in
-    let h = same-bits n (w / 2) (v / 2) (omega arith) (omega arith) (λ i l. half-bit w i ∙ e (suc i) (omega arith) ∙ sym (half-bit v i)) in
+    let h = same-bits n (w / 2) (v / 2) (omega arith) (omega arith) (λ i l. sym (bit-half w i) ∙ e (suc i) (omega arith) ∙ bit-half v i) in
     let o = low-bit w v (e 0 (omega arith)) in
     omega arith
 

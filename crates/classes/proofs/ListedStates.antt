@@ -15,8 +15,8 @@ use Rattle.automaton.specs.Ranges.{some}
 use Rattle.automaton.specs.Sets.{bit}
 use Rattle.automaton.proofs.Booleans.{T-true, is-true, not-T-false, and-both, both-and, same-test, clash}
 use Rattle.automaton.proofs.Ranges.{some-at, some-below}
-use Rattle.automaton.proofs.Bits.{bit-zero}
-use Rattle.relations.proofs.Rows.{bit-and, some-same}
+use Rattle.automaton.proofs.Bits.{bit-and, bit-zero}
+use Rattle.relations.proofs.Rows.{some-same}
 use Rattle.slots.specs.declared.Vertex.{Vertex}
 use Rattle.slots.specs.Slots.{sameList, sameVertex}
 use Rattle.slots.specs.Bytes.{vertexAt}

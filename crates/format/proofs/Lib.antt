@@ -6,5 +6,6 @@ pub mod Items
 pub mod FileStops
 pub mod FileBytes
 pub mod FileRefusals
+pub mod SetBytes
 pub mod AnyOrder
 pub mod SmallExamples

@@ -4,38 +4,18 @@ use mathlib.Core.Path.{_≡_, refl, sym, ap, ap₂, _∙_}
 use mathlib.Core.Bool.{true, false, _&&_, _||_, not}
 use mathlib.Core.List.{[]}
 use Prim.Native.Nat.{ℕ, zero, suc, _+_, _-_, _/_, _%_, _^_, _<_}
-use native.Mathlib.Nat.{pow-succ', div-div-eq-div-mul, div-one}
+use native.Mathlib.Nat.{pow-succ'}
 use native.Mathlib.Omega.{arith}
-use lib.Bits.{bitAnd, and-lt, or-lt, and-shr, and-mod, and-zero-l}
+use lib.Bits.{and-lt, or-lt}
 use lib.Dec.{eqb}
 use lib.ListN.{getD}
 use Rattle.automaton.specs.Ranges.{table}
 use Rattle.automaton.specs.Sets.{bit}
-use Rattle.automaton.proofs.Bits.{bit-or, bit-zero}
+use Rattle.automaton.proofs.Bits.{bit-and, bit-or, bit-zero, bit-half, bit-first}
 use Rattle.automaton.proofs.Ranges.{table-at}
 use Rattle.labels.specs.Labels.{Label, always, never, proposition, negation, both, either, truth, Below, propositionMask, maskOf}
 
--- "And".
-
-bit-and : (w v j : ℕ) → bit (bitAnd w v) j ≡ (bit w j && bit v j)
-bit-and w v j =
-    ap (λ (x : ℕ). eqb x 1) (ap (λ (x : ℕ). x % 2) (and-shr w v j) ∙ and-mod (w / 2 ^ j) (v / 2 ^ j) 1)
-    ∙ go (w / 2 ^ j % 2) (v / 2 ^ j % 2) (omega arith) (omega arith)
-  where
-    go : (x y : ℕ) → x < 2 → y < 2 → eqb (bitAnd x y) 1 ≡ (eqb x 1 && eqb y 1)
-    go zero y h k = ap (λ (z : ℕ). eqb z 1) (and-zero-l y)
-    go (suc zero) zero h k = refl
-    go (suc zero) (suc zero) h k = refl
-    go (suc zero) (suc (suc y)) h k = absurd (omega arith)
-    go (suc (suc x)) y h k = absurd (omega arith)
-
 -- The complement.
-
-half-bit : (w i : ℕ) → bit w (suc i) ≡ bit (w / 2) i
-half-bit w i = sym (ap (λ (x : ℕ). eqb (x % 2) 1) (div-div-eq-div-mul w 2 (2 ^ i) ∙ ap (λ (x : ℕ). w / x) (sym (pow-succ' 2 i))))
-
-first-bit : (w : ℕ) → bit w 0 ≡ eqb (w % 2) 1
-first-bit w = ap (λ (x : ℕ). eqb (x % 2) 1) (div-one w)
 
 flips : (x y : ℕ) → x < 2 → y < 2 → x + y ≡ 1 → eqb x 1 ≡ not (eqb y 1)
 flips zero zero h k e = absurd (omega arith)
@@ -49,13 +29,13 @@ complement-bit : (n m i : ℕ) → m < 2 ^ n → i < n → bit (2 ^ n - 1 - m) i
 complement-bit zero m i h k = absurd (omega arith)
 complement-bit (suc n) m zero h k =
     let p = pow-succ' 2 n in
-    first-bit (2 ^ suc n - 1 - m)
-    ∙ flips ((2 ^ suc n - 1 - m) % 2) (m % 2) (omega arith) (omega arith) (omega (arith, p, h)) ∙ sym (ap not (first-bit m))
+    bit-first (2 ^ suc n - 1 - m)
+    ∙ flips ((2 ^ suc n - 1 - m) % 2) (m % 2) (omega arith) (omega arith) (omega (arith, p, h)) ∙ sym (ap not (bit-first m))
 complement-bit (suc n) m (suc i) h k =
     let p = pow-succ' 2 n in
     let e : (2 ^ suc n - 1 - m) / 2 ≡ 2 ^ n - 1 - m / 2 = omega (arith, p, h) in
-    half-bit (2 ^ suc n - 1 - m) i ∙ ap (λ (x : ℕ). bit x i) e ∙ complement-bit n (m / 2) i (omega (arith, p, h)) (omega arith)
-    ∙ sym (ap not (half-bit m i))
+    bit-half (2 ^ suc n - 1 - m) i ∙ ap (λ (x : ℕ). bit x i) e ∙ complement-bit n (m / 2) i (omega (arith, p, h)) (omega arith)
+    ∙ sym (ap not (bit-half m i))
 
 -- Propositions, t and f.
 

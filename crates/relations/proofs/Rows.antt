@@ -5,10 +5,10 @@ use mathlib.Core.Path.{_≡_, refl, sym, ap, ap₂, subst, _∙_}
 use mathlib.Core.Bool.{Bool, true, false, cond, _&&_, _||_, not}
 use mathlib.Core.List.{List, [], _∷_, _++_}
 use Prim.Native.Nat.{ℕ, zero, suc, _+_, _*_, _/_, _%_, _^_, _-_, _≤_, _<_}
-use native.Mathlib.Nat.{lt-of-not-le, pow-le-pow-right, pow-suc, div-one, add-zero, zero-add, add-suc, suc-add}
+use native.Mathlib.Nat.{lt-of-not-le, pow-le-pow-right, pow-suc, add-zero, zero-add, add-suc, suc-add}
 use native.Mathlib.Numerals.{add-one, one-add}
 use native.Mathlib.Omega.{arith}
-use lib.Bits.{bitAnd, bitOr, and-shr, and-mod, and-zero-l, and-lt, or-self, block-half, block-odd}
+use lib.Bits.{bitAnd, bitOr, and-lt, or-self, block-half, block-odd}
 use lib.Dec.{T, eqb, ltb, ltb→lt, lt→ltb}
 use lib.ListN.{length, getD, set, take, drop, length-append, length-take, length-drop, length-set, take-append-drop, List·getD-append}
 use lib.Arith.{lt-of-le-ne}
@@ -21,7 +21,7 @@ use Rattle.relations.specs.Closure.{related, relation, through, rounds, 
 use Rattle.relations.specs.Rows.{withRow, changedRows, diagonalRows, roundRows, roundsRows, closedRows}
 use Rattle.automaton.proofs.Booleans.{is-true, T-true, not-T-false, same-test, clash}
 use Rattle.automaton.proofs.Ranges.{some-at, some-below, table-at, length-table}
-use Rattle.automaton.proofs.Bits.{bit-zero, bit-or, bit-with}
+use Rattle.automaton.proofs.Bits.{bit-and, bit-zero, bit-or, bit-half, bit-first, bit-with}
 use Rattle.automaton.proofs.EqualAutomata.{same-bits}
 use Rattle.relations.proofs.Closure.{related-relation}
 
@@ -80,24 +80,6 @@ some-cut f g n m l e none =
 
 pub power-word : (q : ℕ) → q < 32 → 2 ^ q < 4294967296
 power-word q h = let l : 2 ^ q ≤ 2 ^ 31 = pow-le-pow-right (omega arith) {i = q} {j = 31} (omega arith) in omega arith
-
-pub bit-and : (w v j : ℕ) → bit (bitAnd w v) j ≡ (bit w j && bit v j)
-bit-and w v j =
-    ap (λ (x : ℕ). eqb x 1) (ap (λ (x : ℕ). x % 2) (and-shr w v j) ∙ and-mod (w / 2 ^ j) (v / 2 ^ j) 1)
-    ∙ go (w / 2 ^ j % 2) (v / 2 ^ j % 2) (omega arith) (omega arith)
-  where
-    go : (x y : ℕ) → x < 2 → y < 2 → eqb (bitAnd x y) 1 ≡ (eqb x 1 && eqb y 1)
-    go zero y h k = ap (λ (z : ℕ). eqb z 1) (and-zero-l y)
-    go (suc zero) zero h k = refl
-    go (suc zero) (suc zero) h k = refl
-    go (suc zero) (suc (suc y)) h k = absurd (omega arith)
-    go (suc (suc x)) y h k = absurd (omega arith)
-
-bit-half : (w i : ℕ) → bit w (suc i) ≡ bit (w / 2) i
-bit-half w i = ap (λ (x : ℕ). eqb (x % 2) 1) (ap (λ (k : ℕ). w / 2 ^ k) (sym (one-add i)) ∙ sym (shr-shr w 1 i))
-
-bit-first : (w : ℕ) → bit w 0 ≡ eqb (w % 2) 1
-bit-first w = ap (λ (x : ℕ). eqb (x % 2) 1) (div-one w)
 
 -- the bits below k of a number and those from k on
 pub bit-low : (k a r i : ℕ) → i < k → bit (a * 2 ^ k + r) i ≡ bit r i

@@ -19,9 +19,8 @@ use Rattle.automaton.specs.Ranges.{those}
 use Rattle.automaton.specs.Sets.{bit}
 use Rattle.automaton.proofs.Booleans.{clash}
 use Rattle.automaton.proofs.Ranges.{length-table}
-use Rattle.automaton.proofs.Bits.{bit-zero}
+use Rattle.automaton.proofs.Bits.{bit-and, bit-zero}
 use Rattle.automaton.proofs.Members.{those-same}
-use Rattle.relations.proofs.Rows.{bit-and}
 use Rattle.slots.specs.declared.Vertex.{Vertex}
 use Rattle.slots.specs.Slots.{slotCount, sameVertex, sameList}
 use Rattle.classes.specs.Classes.{classOf, listedWith, listedIn, Joined}
