@@ -5,7 +5,7 @@
 --   Judged     a file that holds an automaton, and the verdict on it
 --   Right c    the case comes to what its row says
 --   nines n    n bytes of 9, which no file here has
---   onFive, onFour   files of one state that loops on these many of eight letters
+--   onFive, onFour, onEight   files of one state that loops on so many letters
 --   cases      the table
 --   openedF    the entry that opening F makes of a fresh one
 -- Shown by `proved-cases`; `offer-unrefused` offers G to the entry that F opens. Assumes nothing.
@@ -26,7 +26,7 @@ use Rattle.history.specs.Entries.{freshEntry}
 use Rattle.history.specs.Opens.{openOf}
 use Rattle.boundary.specs.Numbers.{outcomeNumber, writeNumber}
 use Rattle.lassos.specs.Verdict.{accepted}
-use Rattle.cases.specs.Worked.{F, backwardsF, G, H, J, textF, closeText, loopOn, bangs}
+use Rattle.cases.specs.Worked.{F, backwardsF, G, H, J, textF, closeText, loopOn, bangs, onBody}
 
 pub data Case : Type 0 where
   call : List ℕ → List ℕ → ℕ → ℕ → ℕ → ℕ → List ℕ → Case
@@ -54,6 +54,12 @@ onFive =
 
 abbrev pub onFour : List ℕ
 onFour = fileBytes 1 8 0 (accepting-item 0 ∷ transition-item 0 1 0 ∷ transition-item 0 3 0 ∷ transition-item 0 5 0 ∷ transition-item 0 7 0 ∷ [])
+
+abbrev pub onEight : List ℕ
+onEight =
+    fileBytes 1 16 0
+    (transition-item 0 8 0 ∷ transition-item 0 9 0 ∷ transition-item 0 10 0 ∷ transition-item 0 11 0
+    ∷ transition-item 0 12 0 ∷ transition-item 0 13 0 ∷ transition-item 0 14 0 ∷ transition-item 0 15 0 ∷ [])
 
 abbrev pub openedF : Entry
 openedF = openOf freshEntry F .entry
@@ -90,10 +96,16 @@ cases =
     hanoi (loopOn (spelled "0|1&!2")) (nines 35) (256 * 35) onFive ∷
     hanoi (loopOn (bangs 64)) (nines 30) (256 * 30) onFour ∷
     hanoi (loopOn (bangs 65)) (nines 30) 117 (nines 30) ∷
+    hanoi (onBody "1" "0" "4 \"a\" \"b\" \"c\" \"d\"" "State: 0 [3] 0") (nines 47) (256 * 47) onEight ∷  -- 16 letters
+    hanoi (onBody "1" "0" "0" "State: 0 {0} [t] 0 [f] 0") (nines 15) (256 * 15) H ∷  -- no proposition, and one letter
+    hanoi (onBody "32" "31" "0" "") (nines 7) (256 * 7) (fileBytes 32 1 31 []) ∷  -- as many states as there may be, none declared
+    hanoi (onBody "2" "1" "1 \"\"" "State:\n0\t[0]\r1 [t] 1 [0] 1") (nines 17) (256 * 17) (fileBytes 2 2 1 (transition-item 0 0 1 ∷ transition-item 0 1 1 ∷ [])) ∷
     hanoi [] (nines 7) 117 (nines 7) ∷  -- the example of refusal 17
     hanoi (spelled "HOA: v1 States: 1 Start: 0 AP: 5") (nines 7) 118 (nines 7) ∷  -- the example of refusal 18
     hanoi (spelled "HOA: v1 States: 33Start:") (nines 7) 103 (nines 7) ∷  -- the number ends first
     hanoi (spelled "HOA: v1 States: 3Start:") (nines 7) 117 (nines 7) ∷  -- letters touch a digit
     hanoi (loopOn (spelled "0] 1 [3")) (nines 7) 104 (nines 7) ∷  -- the target ends first
     hanoi (loopOn (spelled "3")) (nines 7) 117 (nines 7) ∷  -- a proposition that AP lacks
+    hanoi (spelled "HOA: v1 States: 01") (nines 7) 117 (nines 7) ∷  -- no number
+    hanoi (spelled "HOA: v1 States: 18446744073709551617") (nines 7) 103 (nines 7) ∷  -- 2 to the power of 64, and 1
     []

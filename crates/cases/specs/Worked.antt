@@ -3,6 +3,7 @@
 -- in `Cases`. Assumes nothing.
 use mathlib.Core.List.{List, [], _∷_, _++_}
 use Prim.Native.Nat.{ℕ}
+use Prim.Native.String.{String}
 use lib.ListN.{replicate}
 use Rattle.format.specs.Writing.{accepting-item, transition-item, fileBytes}
 use Rattle.tokens.specs.Spelled.{spelled}
@@ -57,3 +58,9 @@ loopOn label =
 -- so many `!` before a proposition
 abbrev pub bangs : ℕ → List ℕ
 bangs n = replicate n 0x21 ++ spelled "0"
+
+-- a body behind a header with these states, start and propositions
+abbrev pub onBody : String → String → String → String → List ℕ
+onBody states start propositions parts =
+    spelled "HOA: v1 States: " ++ spelled states ++ spelled " Start: " ++ spelled start ++ spelled " AP: " ++ spelled propositions
+    ++ spelled " Acceptance: 1 Inf(0) --BODY-- " ++ spelled parts ++ spelled "--END--"

@@ -1,4 +1,4 @@
--- Checks in order, where the first condition that holds decides (01, "Contain", "Verdict", "Entry, open, offer"; 02, S-1).
+-- Checks in order, where the first condition that holds decides (01, "Contain", "Verdict", "Entry, open, offer"; 02, S-1 and S-2).
 --   Row            a row of a table, as a condition on answers: of x it says that the row's condition holds and that x is its answer
 --   answers x C    the row with the answer x under the condition C
 --   answersBy a C  the row with the answer a n for the number n of which C holds; answersBy₂ and answersBy₃ take two and three numbers
@@ -7,8 +7,8 @@
 --   At k rows x    the row at place k, counted from 0, has the answer x and its condition holds
 --   onRead         what follows a file: by the refusal's number, or by the automaton
 --   FileHolds f P  the file can be read, and P holds of its automaton
--- Nothing settles these: they are how a table is read. `contain-table`, `open-table`, `offer-table`, `verdict-table` and `write-table` are stated in
--- them. Assumes nothing.
+-- Nothing settles these: they are how a table is read. `contain-table`, `open-table`, `offer-table`, `verdict-table`, `write-table` and `hanoi-table` are
+-- stated in them. Assumes nothing.
 use mathlib.Core.Path.{_≡_}
 use mathlib.Core.List.{List, [], _∷_}
 use mathlib.Core.Logic.{_⊎_}

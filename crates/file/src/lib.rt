@@ -9,7 +9,7 @@ use automaton::Head;
 mod first;
 mod taking;
 
-// What reading a file gives: refusal 1 to 5, or 0, and the head to the transitions that were lent.
+// What reading gives: the refusal's number, or 0, and the head to the transitions that were lent.
 pub struct Reading {
     pub refusal: usize,
     pub head: Head,

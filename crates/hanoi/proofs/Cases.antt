@@ -12,8 +12,8 @@ use Rattle.tokens.specs.Tokens.{stands, behind, Number, none, number, numberAt}
 use Rattle.tokens.specs.Lexical.{IsToken, NoToken}
 use Rattle.tokens.proofs.LexicalLaws.{nameEnd, number-lexical, name-lexical, a-token, no-token, no-number-at}
 use Rattle.hanoi.specs.Words.{accName, Buchi, zeroWord, leftBrace, rightBrace, quote}
-use Rattle.hanoi.specs.Reading.{refused, Step, over, outside, expect, expectNumber, check, names, named, acceptance}
-use Rattle.hanoi.specs.Grammar.{Words, no-word, word, Numbered, numbered, Names, no-name, name, Named, is-named, is-unnamed, Marked, accepting, rejecting}
+use Rattle.hanoi.specs.Reading.{refused, Step, over, outside, expect, expectNumber, check, names, accNameItem, acceptance}
+use Rattle.hanoi.specs.Grammar.{Words, no-word, word, Numbered, numbered, Names, no-name, name, HasAccName, is-named, is-unnamed, Marked, accepting, rejecting}
 use Rattle.hanoi.specs.Faults.{NoWords, first-word, later-word, NoNumbered, no-words, no-number, NoNames, first-name, later-name}
 
 -- the tokens ws, one after the other
@@ -70,9 +70,9 @@ module _ (P : Step → Type 0) (s : List ℕ) where
       by ih true false e f = k (first-name (λ j x. eqb-false (getD s (nameEnd s i) 0) 0x22 f (name-lexical s i j .1 x .1)))
       by ih false b e f = k (first-name (λ j x. clash (name-lexical s i j .1 x .0) e))
 
-  pub named-case : (i : ℕ) (go : ℕ → Step) → ((j : ℕ) → Named s i j → P (go j))
-      → (IsToken accName s i (behind accName s i) → NoToken Buchi s (behind accName s i) → P outside) → P (named s i go)
-  unfolding named expect
+  pub named-case : (i : ℕ) (go : ℕ → Step) → ((j : ℕ) → HasAccName s i j → P (go j))
+      → (IsToken accName s i (behind accName s i) → NoToken Buchi s (behind accName s i) → P outside) → P (accNameItem s i go)
+  unfolding accNameItem expect
   named-case i go h k = by (stands accName s i) (stands Buchi s (behind accName s i)) refl refl
     where
       by : (a b : Bool) → stands accName s i ≡ a → stands Buchi s (behind accName s i) ≡ b

@@ -8,20 +8,28 @@ use Rattle.tokens.specs.Spelled.{spelled}
 use Rattle.tokens.specs.Tokens.{whites, skip, startsWith, stands, digits, value, numberAt, nameBytes}
 use Rattle.labels.specs.Labels.{negation, proposition}
 use Rattle.labels.specs.LabelReading.{atomAt, more, conjunction, disjunction, operandAt, labelAt}
-use Rattle.hanoi.specs.Descriptions.{Described, declared, edge}
-use Rattle.hanoi.specs.Reading.{refused, expect, expectNumber, check, names, named, acceptance, isDeclared, stateAt, edgeAt, edgeOf, endAt, partAt, header, body, readHanoi}
+use Rattle.hanoi.specs.Descriptions.{Description, declared, edge}
+use Rattle.hanoi.specs.Reading.{refused, expect, expectNumber, check, names, accNameItem, acceptance, isDeclared, stateAt, edgeAt, edgeOf, endAt, partAt, header, body, readHanoi}
 use Rattle.hanoi.specs.Grammar.{IsFile}
 use Rattle.hanoi.proofs.Decided.{hanoi-grammar}
 
 abbrev whole : List ℕ
 whole = spelled "HOA:v1 States:1 Start:0 AP:1\"a\"acc-name:Buchi Acceptance:1 Inf(0)--BODY--State:0{0}[!0]0--END--"
 
-abbrev wholeSays : Described
+abbrev wholeSays : Description
 wholeSays = record { states = 1; start = 0; propositions = 1; parts = edge 0 (negation (proposition 0)) 0 ∷ declared 0 true ∷ [] }
 
 pub whole-file : IsFile whole wholeSays
-unfolding whites skip startsWith stands digits value numberAt nameBytes atomAt more conjunction disjunction operandAt labelAt expect expectNumber check names named acceptance isDeclared stateAt edgeAt edgeOf endAt partAt header body readHanoi
+unfolding whites skip startsWith stands digits value numberAt nameBytes atomAt more conjunction disjunction operandAt labelAt expect expectNumber check names accNameItem acceptance isDeclared stateAt edgeAt edgeOf endAt partAt header body readHanoi
 whole-file = hanoi-grammar whole wholeSays .0 refl
+
+-- as many states and propositions as there may be, names of no bytes, and no part
+abbrev largest : List ℕ
+largest = spelled "HOA:v1 States:32 Start:31 AP:4\"\"\"\"\"\"\"\"Acceptance:1 Inf(0)--BODY----END--"
+
+pub largest-file : IsFile largest (record { states = 32; start = 31; propositions = 4; parts = [] })
+unfolding whites skip startsWith stands digits value numberAt nameBytes atomAt more conjunction disjunction operandAt labelAt expect expectNumber check names accNameItem acceptance isDeclared stateAt edgeAt edgeOf endAt partAt header body readHanoi
+largest-file = hanoi-grammar largest (record { states = 32; start = 31; propositions = 4; parts = [] }) .0 refl
 
 -- the body behind a header of one state and one proposition
 abbrev one-state : List ℕ → List ℕ
@@ -48,5 +56,5 @@ AllRefused [] = Unit {0}
 AllRefused (x ∷ xs) = (readHanoi (x .0) ≡ refused (x .1)) × AllRefused xs
 
 pub first-faults : AllRefused faulty
-unfolding whites skip startsWith stands digits value numberAt nameBytes atomAt more conjunction disjunction operandAt labelAt expect expectNumber check names named acceptance isDeclared stateAt edgeAt edgeOf endAt partAt header body readHanoi
+unfolding whites skip startsWith stands digits value numberAt nameBytes atomAt more conjunction disjunction operandAt labelAt expect expectNumber check names accNameItem acceptance isDeclared stateAt edgeAt edgeOf endAt partAt header body readHanoi
 first-faults = (refl, (refl, (refl, (refl, (refl, (refl, (refl, (refl, (refl, (refl, (refl, tt)))))))))))

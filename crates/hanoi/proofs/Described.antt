@@ -16,8 +16,7 @@ use Rattle.automaton.proofs.Bits.{bare-accepts, bare-transition, bare-header, w
 use Rattle.automaton.proofs.EqualAutomata.{equal-automata}
 use Rattle.format.specs.Writing.{accepting-item}
 use Rattle.labels.specs.Labels.{Label, truth}
-use Rattle.hanoi.specs.Descriptions.{Part, declared, edge, Described}
-use Rattle.hanoi.specs.Reading.{maxPropositions}
+use Rattle.hanoi.specs.Descriptions.{maxPropositions, Part, declared, edge, Description}
 use Rattle.hanoi.specs.Meaning.{Edge, Describes, IsDescribed, withPart, withParts, automatonOf, PartWithin, WellFormed}
 use Rattle.hanoi.proofs.InBytes.{InBytes, bare-in-bytes, with-item-in-bytes}
 use Rattle.hanoi.proofs.EdgeLetters.{letters-added}
@@ -160,7 +159,7 @@ few-letters k h =
     (a, b)
 
 -- what D describes, in an automaton that is in range and in bytes
-described-bytes : (D : Described) → WellFormed D → Describes D (automatonOf D) × InBytes (automatonOf D)
+described-bytes : (D : Description) → WellFormed D → Describes D (automatonOf D) × InBytes (automatonOf D)
 unfolding automatonOf
 described-bytes D f =
     let n = D .states in
@@ -188,14 +187,14 @@ described-bytes D f =
       h .bytes,
     )
 
-pub described : (D : Described) → WellFormed D → IsDescribed D (automatonOf D)
+pub described : (D : Description) → WellFormed D → IsDescribed D (automatonOf D)
 described D f =
     let d = described-bytes D f in
     let b = d .1 in
     record { describes = d .0; in-range = b .in-range; accepting-bytes = b .accepting-bytes; transition-bytes = b .transition-bytes }
 
 -- what D describes decides the header, the accepting states and the transitions, and these decide the automaton
-pub described-only : (D : Described) (A B : Automaton) → IsDescribed D A → IsDescribed D B → A ≡ B
+pub described-only : (D : Description) (A B : Automaton) → IsDescribed D A → IsDescribed D B → A ≡ B
 described-only D A B f g =
     let d = f .describes in
     let e = g .describes in

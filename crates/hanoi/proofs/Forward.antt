@@ -10,7 +10,7 @@ use Rattle.tokens.specs.Tokens.{skip, touches, startsWith, stands}
 use Rattle.tokens.proofs.Runs.{byte-within, skip-from}
 use Rattle.tokens.proofs.LexicalLaws.{and-left, starts-byte, token-behind}
 use Rattle.labels.proofs.Sound.{number-forward, disjunction-forward}
-use Rattle.hanoi.specs.Descriptions.{Part, Described}
+use Rattle.hanoi.specs.Descriptions.{Part, Description}
 use Rattle.hanoi.specs.Grammar.{Words, no-word, word, Numbered, numbered, Marked, accepting, rejecting, IsPart, state-part, edge-part}
 
 pub stands-byte : (b : ℕ) (w s : List ℕ) (i : ℕ) → stands (b ∷ w) s i ≡ true → getD s (skip s i) 0 ≡ b
@@ -47,6 +47,6 @@ marked-forward : {s : List ℕ} {i : ℕ} {b : Bool} {j : ℕ} → Marked s i b 
 marked-forward (accepting x) = words-forward x
 marked-forward (rejecting n e) = omega (arith, e)
 
-pub part-forward : {s : List ℕ} {D : Described} {i : ℕ} {x : Part} {j : ℕ} → IsPart s D i x j → i < j
+pub part-forward : {s : List ℕ} {D : Description} {i : ℕ} {x : Part} {j : ℕ} → IsPart s D i x j → i < j
 part-forward (state-part n h d m) = omega (arith, numbered-forward n, marked-forward m)
 part-forward {s = s} {i = i} (edge-part e l d n h) = omega (arith, skip-from s i, token-behind e, disjunction-forward d, numbered-forward n)

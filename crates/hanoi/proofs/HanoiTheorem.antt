@@ -15,7 +15,7 @@ use Rattle.fixed_form.specs.Write.{Write, writing}
 use Rattle.fixed_form.specs.WriteDemand.{shortestFile, longestFile}
 use Rattle.fixed_form.proofs.FixedFormTheorem.{written-read, fixed-form-iff}
 use Rattle.fixed_form.proofs.Lengths.{written-bounds}
-use Rattle.hanoi.specs.Descriptions.{Described}
+use Rattle.hanoi.specs.Descriptions.{Description}
 use Rattle.hanoi.specs.Reading.{describes, readHanoi}
 use Rattle.hanoi.specs.Meaning.{automatonOf}
 use Rattle.hanoi.specs.Hanoi.{hanoiOf}
@@ -24,6 +24,7 @@ use Rattle.hanoi.specs.HanoiDemand.{HanoiListed, TextReads, AfterHanoi, 
 use Rattle.hanoi.proofs.Decided.{hanoi-grammar, hanoi-refused-iff}
 use Rattle.hanoi.proofs.Described.{described-only}
 use Rattle.hanoi.proofs.WellFormed.{hanoi-refusals, hanoi-describes}
+use Rattle.hanoi.proofs.Undeclared.{undeclared-bare}
 use Rattle.hanoi.proofs.HanoiCases.{by-text, text-of, text-computed}
 use Rattle.hanoi.proofs.HanoiTable.{hanoi-table}
 
@@ -35,9 +36,10 @@ module _ (s : List ℕ) where
         faults = hanoi-refused-iff s;
         automaton = hanoi-describes s;
         only = λ D A f d. described-only D A (automatonOf D) d (hanoi-describes s D f);
+        undeclared = λ D A q f d n. undeclared-bare s D A q f d n;
       }
 
-  bounds : (D : Described) → readHanoi s ≡ describes D
+  bounds : (D : Description) → readHanoi s ≡ describes D
       → (shortestFile ≤ length (written (automatonOf D))) × (length (written (automatonOf D)) ≤ longestFile)
   bounds D r =
       let i = hanoi-describes s D (hanoi-grammar s D .0 r) .in-range in

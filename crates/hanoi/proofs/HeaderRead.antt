@@ -7,16 +7,16 @@ use lib.Dec.{leb, ltb}
 use borrow.Author.Tests.{lt-ltb, le-ltb, le-leb, lt-leb}
 use Rattle.automaton.specs.Automata.{maxStates}
 use Rattle.hanoi.specs.Words.{Start, AP, Buchi}
-use Rattle.hanoi.specs.Descriptions.{Described, headed}
-use Rattle.hanoi.specs.Reading.{maxPropositions, refused, Step, over, next, expectNumber, check, names, named, header}
+use Rattle.hanoi.specs.Descriptions.{maxPropositions, Description, headed}
+use Rattle.hanoi.specs.Reading.{refused, Step, over, next, expectNumber, check, names, accNameItem, header}
 use Rattle.hanoi.specs.Grammar.{statesWords, acceptanceWords, HasStates, has-states, HasStart, has-start, HasPropositions, has-propositions, HasNames, has-names, IsHeader, header-stands}
-use Rattle.hanoi.specs.Faults.{HeaderFault, no-states, states-outside, no-start, start-outside, no-propositions, many-propositions, no-names, other-name, no-acceptance}
+use Rattle.hanoi.specs.Faults.{HeaderFault, no-states, states-outside, no-start, start-outside, no-propositions, many-propositions, no-names, other-acc-name, no-acceptance}
 use Rattle.hanoi.proofs.Cases.{expectAll}
 use Rattle.hanoi.proofs.Says.{states-in-range, in-range-states}
 use Rattle.hanoi.proofs.TokensRead.{expect-refused, words-read, words-refused, numbered-read, numbered-refused, check-read, check-refused, names-read, names-refused, named-on, named-read}
 
 abbrev afterNames : List ℕ → ℕ → ℕ → ℕ → ℕ → Step
-afterNames s n q k i = named s i (λ i. expectAll acceptanceWords s i (λ i. next i (headed n q k)))
+afterNames s n q k i = accNameItem s i (λ i. expectAll acceptanceWords s i (λ i. next i (headed n q k)))
 
 abbrev afterStart : List ℕ → ℕ → ℕ → ℕ → Step
 afterStart s n q i = expectAll (AP ∷ []) s i (λ i. expectNumber s i (λ k i. check (leb k maxPropositions) 18 (names k s i (afterNames s n q k))))
@@ -49,7 +49,7 @@ module _ {s : List ℕ} where
   header-names-read : {n q k j : ℕ} → HasNames s n q k j → header s ≡ afterNames s n q k j
   header-names-read {n = n} {q = q} {k = k} (has-names h x) = propositions-read h ∙ names-read s (afterNames s n q k) x
 
-  pub header-read : {D : Described} {j : ℕ} → IsHeader s D j → header s ≡ next j D
+  pub header-read : {D : Description} {j : ℕ} → IsHeader s D j → header s ≡ next j D
   header-read {j = j} (header-stands h a x e) = header-names-read h ∙ named-read s _ a ∙ words-read _ x ∙ ap (next j) (sym e)
 
   pub header-refused : {n : ℕ} → HeaderFault s n → header s ≡ over (refused n)
@@ -60,5 +60,5 @@ module _ {s : List ℕ} where
   header-refused (no-propositions h x) = start-read h ∙ numbered-refused _ x
   header-refused (many-propositions {k = k} h x a) = start-read h ∙ numbered-read _ x ∙ check-refused _ _ _ (lt-leb k maxPropositions a)
   header-refused (no-names {n = n} {q = q} {k = k} h x) = propositions-read h ∙ names-refused s (afterNames s n q k) x
-  header-refused (other-name {a = a} h e f) = header-names-read h ∙ named-on s _ e ∙ expect-refused Buchi s a _ f
+  header-refused (other-acc-name {a = a} h e f) = header-names-read h ∙ named-on s _ e ∙ expect-refused Buchi s a _ f
   header-refused (no-acceptance h a x) = header-names-read h ∙ named-read s _ a ∙ words-refused _ x

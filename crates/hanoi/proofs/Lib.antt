@@ -12,6 +12,7 @@ pub mod InBytes
 pub mod EdgeLetters
 pub mod Described
 pub mod WellFormed
+pub mod Undeclared
 pub mod HanoiCases
 pub mod HanoiTable
 pub mod HanoiTheorem

@@ -17,7 +17,7 @@ use Rattle.labels.specs.LabelReading.{Found, absent, found, labelAt}
 use Rattle.labels.specs.LabelGrammar.{IsLabel}
 use Rattle.labels.proofs.Complete.{label-grammar}
 use Rattle.hanoi.specs.Words.{zeroWord, END, State, leftBrace, rightBrace, leftBracket, rightBracket}
-use Rattle.hanoi.specs.Descriptions.{Part, declared, edge, Described, with-part}
+use Rattle.hanoi.specs.Descriptions.{Part, declared, edge, Description, extended}
 use Rattle.hanoi.specs.Reading.{refused, describes, Step, over, next, outside, expect, expectNumber, check, acceptance, isDeclared, stateAt, edgeAt, edgeOf, endAt, partAt}
 use Rattle.hanoi.specs.Grammar.{word, Numbered, Marked, accepting, rejecting, Latest, of-state, of-edge, Declares, IsPart, state-part, edge-part, IsEnd, is-end}
 use Rattle.hanoi.specs.Faults.{PartFault, no-part, more-text, no-state, state-outside, state-again, no-mark, edge-first, no-label, no-target, target-outside}
@@ -34,7 +34,7 @@ undeclared {q = q} {xs = xs} n = by (isDeclared q xs) refl
     by true e = absurd (n (declared-iff q xs .0 e))
     by false e = refl
 
-module _ (s : List ℕ) (D : Described) where
+module _ (s : List ℕ) (D : Description) where
   part-by : (i : ℕ) (a b c : Bool) → stands END s i ≡ a → stands State s i ≡ b → stands leftBracket s i ≡ c → partAt s i D ≡ elim a [
     | true ↦ endAt s (behind END s i) D
     | false ↦ elim b [
@@ -96,12 +96,12 @@ module _ (s : List ℕ) (D : Described) where
 
   -- a state's number is read; its tests follow
   state-read : {i q j : ℕ} → Numbered s (State ∷ []) i q j
-      → partAt s i D ≡ check (ltb q (D .states)) 4 (check (not (isDeclared q (D .parts))) 17 (acceptance s j (λ b k. next k (with-part (declared q b) D))))
+      → partAt s i D ≡ check (ltb q (D .states)) 4 (check (not (isDeclared q (D .parts))) 17 (acceptance s j (λ b k. next k (extended (declared q b) D))))
   unfolding stateAt
   state-read {i = i} {q = q} {j = j} x = let y = one-numbered x in at-state (y .1) ∙ number-read _ (y .2)
 
   state-in-range : {i q j : ℕ} → Numbered s (State ∷ []) i q j → q < D .states
-      → partAt s i D ≡ check (not (isDeclared q (D .parts))) 17 (acceptance s j (λ b k. next k (with-part (declared q b) D)))
+      → partAt s i D ≡ check (not (isDeclared q (D .parts))) 17 (acceptance s j (λ b k. next k (extended (declared q b) D)))
   state-in-range {q = q} x h = state-read x ∙ check-read _ _ _ (lt-ltb q (D .states) h)
 
   marked-by : (i : ℕ) (go : Bool → ℕ → Step) (b : Bool) → stands leftBrace s i ≡ b
@@ -124,13 +124,13 @@ module _ (s : List ℕ) (D : Described) where
 
   -- an edge's label is read, with its `]`; its target follows
   edge-read : {i a q : ℕ} {L : Label} {j l : ℕ} → IsToken leftBracket s i a → Latest q (D .parts) → IsLabel s (D .propositions) a L j
-      → IsToken rightBracket s j l → partAt s i D ≡ expectNumber s l (λ r l. check (ltb r (D .states)) 4 (next l (with-part (edge q L r) D)))
+      → IsToken rightBracket s j l → partAt s i D ≡ expectNumber s l (λ r l. check (ltb r (D .states)) 4 (next l (extended (edge q L r) D)))
   unfolding edgeAt
   edge-read {a = a} {q = q} {L = L} {j = j} {l = l} x o d y =
       at-edge x ∙ latest-read a o
       ∙ ap (λ (x : Found). elim x [
         | absent ↦ outside
-        | found L j ↦ expect rightBracket s j (λ k. expectNumber s k (λ r l. check (ltb r (D .states)) 4 (next l (with-part (edge q L r) D))))
+        | found L j ↦ expect rightBracket s j (λ k. expectNumber s k (λ r l. check (ltb r (D .states)) 4 (next l (extended (edge q L r) D))))
       ]) (label-read s (D .propositions) a L j l d y)
       ∙ expect-read _ y
 
@@ -141,19 +141,19 @@ module _ (s : List ℕ) (D : Described) where
     where
       by : (x : Found) → labelAt s (D .propositions) a ≡ x → elim x [
         | absent ↦ outside
-        | found L j ↦ expect rightBracket s j (λ k. expectNumber s k (λ r l. check (ltb r (D .states)) 4 (next l (with-part (edge q L r) D))))
+        | found L j ↦ expect rightBracket s j (λ k. expectNumber s k (λ r l. check (ltb r (D .states)) 4 (next l (extended (edge q L r) D))))
       ] ≡ outside
       by absent x = refl
       by (found L j) x =
-          expect-refused rightBracket s j (λ k. expectNumber s k (λ r l. check (ltb r (D .states)) 4 (next l (with-part (edge q L r) D))))
+          expect-refused rightBracket s j (λ k. expectNumber s k (λ r l. check (ltb r (D .states)) 4 (next l (extended (edge q L r) D))))
           (λ l. n L j l (label-grammar s (D .propositions) a L j .0 x .0))
 
   -- an edge's target is read; its test follows
   target-read : {i a q : ℕ} {L : Label} {j r l : ℕ} → IsToken leftBracket s i a → Latest q (D .parts) → IsLabel s (D .propositions) a L j
-      → Numbered s (rightBracket ∷ []) j r l → partAt s i D ≡ check (ltb r (D .states)) 4 (next l (with-part (edge q L r) D))
+      → Numbered s (rightBracket ∷ []) j r l → partAt s i D ≡ check (ltb r (D .states)) 4 (next l (extended (edge q L r) D))
   target-read {i = i} x o d z = let y = one-numbered z in edge-read x o d (y .1) ∙ number-read _ (y .2)
 
-  pub part-read : {i : ℕ} {x : Part} {j : ℕ} → IsPart s D i x j → partAt s i D ≡ next j (with-part x D)
+  pub part-read : {i : ℕ} {x : Part} {j : ℕ} → IsPart s D i x j → partAt s i D ≡ next j (extended x D)
   part-read (state-part x h d m) = state-in-range x h ∙ check-read _ _ _ (ap not (undeclared d)) ∙ marked-read _ m
   part-read (edge-part {r = r} x o d y h) = target-read x o d y ∙ check-read _ _ _ (lt-ltb r (D .states) h)
 

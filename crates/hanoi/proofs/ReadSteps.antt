@@ -6,7 +6,7 @@ use mathlib.Core.List.{List, [], _∷_}
 use Prim.Native.Nat.{ℕ, zero, suc}
 use lib.Dec.{eqb}
 use Rattle.labels.specs.Labels.{Label}
-use Rattle.hanoi.specs.Descriptions.{Part, declared, edge, Described}
+use Rattle.hanoi.specs.Descriptions.{Part, declared, edge, Description}
 use Rattle.hanoi.specs.Reading.{Read, outside, over, next, isDeclared, edgeAt, edgeOf, partAt, body}
 
 pub body-over : (n : ℕ) (s : List ℕ) (r : Read) → body n s (over r) ≡ r
@@ -14,11 +14,11 @@ unfolding body
 body-over zero s r = refl
 body-over (suc n) s r = refl
 
-pub body-on : (n : ℕ) (s : List ℕ) (i : ℕ) (D : Described) → body (suc n) s (next i D) ≡ body n s (partAt s i D)
+pub body-on : (n : ℕ) (s : List ℕ) (i : ℕ) (D : Description) → body (suc n) s (next i D) ≡ body n s (partAt s i D)
 unfolding body
 body-on n s i D = refl
 
-module _ (s : List ℕ) (i : ℕ) (D : Described) where
+module _ (s : List ℕ) (i : ℕ) (D : Description) where
   pub edge-first-step : edgeOf s i [] D ≡ outside
   unfolding edgeOf
   edge-first-step = refl

@@ -21,10 +21,10 @@ use Rattle.labels.specs.LabelGrammar.{IsLabel}
 use Rattle.labels.proofs.Sound.{not-absent}
 use Rattle.labels.proofs.Complete.{label-grammar}
 use Rattle.hanoi.specs.Words.{Start, AP, END, State, leftBracket, rightBracket}
-use Rattle.hanoi.specs.Descriptions.{Part, declared, edge, Described, with-part}
-use Rattle.hanoi.specs.Reading.{maxPropositions, Read, refused, describes, Step, over, next, outside, expect, expectNumber, check, isDeclared, stateAt, edgeAt, edgeOf, endAt, partAt, header, body, readHanoi}
+use Rattle.hanoi.specs.Descriptions.{maxPropositions, Part, declared, edge, Description, extended}
+use Rattle.hanoi.specs.Reading.{Read, refused, describes, Step, over, next, outside, expect, expectNumber, check, isDeclared, stateAt, edgeAt, edgeOf, endAt, partAt, header, body, readHanoi}
 use Rattle.hanoi.specs.Grammar.{no-word, word, numbered, statesWords, acceptanceWords, has-states, has-start, has-propositions, has-names, IsHeader, header-stands, Latest, of-state, of-edge, Declares, declares, declares-before, IsPart, state-part, edge-part, IsEnd, is-end, IsBody, ends, part, IsFile, file}
-use Rattle.hanoi.specs.Faults.{HeaderFault, no-states, states-outside, no-start, start-outside, no-propositions, many-propositions, no-names, other-name, no-acceptance, PartFault, no-part, more-text, no-state, state-outside, state-again, no-mark, edge-first, no-label, no-target, target-outside, BodyFault, here, later, Fault, in-header, in-body}
+use Rattle.hanoi.specs.Faults.{HeaderFault, no-states, states-outside, no-start, start-outside, no-propositions, many-propositions, no-names, other-acc-name, no-acceptance, PartFault, no-part, more-text, no-state, state-outside, state-again, no-mark, edge-first, no-label, no-target, target-outside, BodyFault, here, later, Fault, in-header, in-body}
 use Rattle.hanoi.proofs.ReadSteps.{body-over}
 use Rattle.hanoi.proofs.Forward.{stands-byte, stands-past, part-forward}
 use Rattle.hanoi.proofs.Cases.{expectAll, words-case, number-case, numbered-case, check-case, names-case, named-case, marked-case}
@@ -57,13 +57,13 @@ header-says s =
     let hk = has-propositions hq z (leb-true k maxPropositions c) in
     names-case P s k l _ (λ m u. let hm = has-names hk u in
     named-case P s m _ (λ o v. words-case P s acceptanceWords o _ (λ e t. header-stands hm v t refl) (λ t. no-acceptance hm v t))
-    (λ e f. other-name hm e f))
+    (λ e f. other-acc-name hm e f))
     (λ u. no-names hk u))
     (λ c. many-propositions hq z (leb-false k maxPropositions c))) (λ z. no-propositions hq z))
     (λ b. start-outside hn y (ltb-false q n b))) (λ y. no-start hn y))
     (λ a. states-outside x (λ h. clash (in-range-states n (h .0) (h .1)) a))) (λ x. no-states x)
 
-pub header-next : (s : List ℕ) (i : ℕ) (D : Described) → header s ≡ next i D → IsHeader s D i
+pub header-next : (s : List ℕ) (i : ℕ) (D : Description) → header s ≡ next i D → IsHeader s D i
 header-next s i D e = subst (HeaderSays s) e (header-says s)
 
 -- The body.
@@ -92,14 +92,14 @@ declares-declared (declares-before {x = edge p L r} m) = declares-declared m
 pub declared-iff : (q : ℕ) (xs : List Part) → (isDeclared q xs ≡ true) ↔ Declares q xs
 declared-iff q xs = (declared-declares q xs, declares-declared)
 
-pub data NextPart (s : List ℕ) (D : Described) (i j : ℕ) (E : Described) : Type 0 where
-  next-part : {x : Part} → IsPart s D i x j → E ≡ with-part x D → NextPart s D i j E
+pub data NextPart (s : List ℕ) (D : Description) (i j : ℕ) (E : Description) : Type 0 where
+  next-part : {x : Part} → IsPart s D i x j → E ≡ extended x D → NextPart s D i j E
 
-abbrev PartOver : List ℕ → Described → ℕ → Read → Type 0
+abbrev PartOver : List ℕ → Description → ℕ → Read → Type 0
 PartOver s D i (refused n) = PartFault s D i n
 PartOver s D i (describes E) = IsEnd s i × (D ≡ E)
 
-abbrev PartSays : List ℕ → Described → ℕ → Step → Type 0
+abbrev PartSays : List ℕ → Description → ℕ → Step → Type 0
 PartSays s D i (over r) = PartOver s D i r
 PartSays s D i (next j E) = NextPart s D i j E
 
@@ -108,7 +108,7 @@ pub label-read : (s : List ℕ) (k i : ℕ) (L : Label) (j l : ℕ) → IsLabel 
 label-read s k i L j l d x = label-grammar s k i L j .1 (d, λ a b. omega (arith, byte-stands b, stands-byte 0x5D [] s j (token-stands x)))
 
 -- what stands from i on, behind its first token at place a
-module _ (s : List ℕ) (D : Described) (i a : ℕ) where
+module _ (s : List ℕ) (D : Description) (i a : ℕ) where
   end-says : IsToken END s i a → PartSays s D i (endAt s a D)
   unfolding endAt
   end-says x = by (eqb (skip s a) (length s)) refl
@@ -125,7 +125,7 @@ module _ (s : List ℕ) (D : Described) (i a : ℕ) where
       check-case P s (ltb q (D .states)) 4 _ (λ b. let h = ltb-true q (D .states) b in
       check-case P s (not (isDeclared q (D .parts))) 17 _ (λ c.
       let d : Declares q (D .parts) → ⊥ = λ m. clash (declared-iff q (D .parts) .1 m) (not-true (isDeclared q (D .parts)) c) in
-      marked-case P s j (λ b k. next k (with-part (declared q b) D)) (λ b k m. next-part (state-part x h d m) refl) (λ g m. no-mark x h d g m))
+      marked-case P s j (λ b k. next k (extended (declared q b) D)) (λ b k m. next-part (state-part x h d m) refl) (λ g m. no-mark x h d g m))
       (λ c. state-again x h (declared-iff q (D .parts) .0 (not-false (isDeclared q (D .parts)) c))))
       (λ b. state-outside x (ltb-false q (D .states) b)))
       (λ f. no-state y (no-number-at s a f))
@@ -136,14 +136,14 @@ module _ (s : List ℕ) (D : Described) (i a : ℕ) where
     where
       target : (L : Label) (j : ℕ) → labelAt s (D .propositions) a ≡ found L j → (b : Bool) → stands rightBracket s j ≡ b
           → PartSays s D i (elim b [
-            | true ↦ expectNumber s (behind rightBracket s j) (λ r k. check (ltb r (D .states)) 4 (next k (with-part (edge q L r) D)))
+            | true ↦ expectNumber s (behind rightBracket s j) (λ r k. check (ltb r (D .states)) 4 (next k (extended (edge q L r) D)))
             | false ↦ outside
           ])
       target L j x true f =
           let P = PartSays s D i in
           let d = label-grammar s (D .propositions) a L j .0 x .0 in
           let u = a-token rightBracket s j f in
-          number-case P s (behind rightBracket s j) (λ r k. check (ltb r (D .states)) 4 (next k (with-part (edge q L r) D))) (λ r k g.
+          number-case P s (behind rightBracket s j) (λ r k. check (ltb r (D .states)) 4 (next k (extended (edge q L r) D))) (λ r k g.
           let y = numbered (word u (no-word refl)) (number-lexical s (behind rightBracket s j) r k .0 g) in
           check-case P s (ltb r (D .states)) 4 _ (λ b. next-part (edge-part e l d y (ltb-true r (D .states) b)) refl)
           (λ b. target-outside e l d y (ltb-false r (D .states) b)))
@@ -154,7 +154,7 @@ module _ (s : List ℕ) (D : Described) (i a : ℕ) where
 
       by : (x : Found) → labelAt s (D .propositions) a ≡ x → PartSays s D i (elim x [
         | absent ↦ outside
-        | found L j ↦ expect rightBracket s j (λ k. expectNumber s k (λ r m. check (ltb r (D .states)) 4 (next m (with-part (edge q L r) D))))
+        | found L j ↦ expect rightBracket s j (λ k. expectNumber s k (λ r m. check (ltb r (D .states)) 4 (next m (extended (edge q L r) D))))
       ])
       by absent x = no-label e l (λ M k n d g. not-absent (sym x ∙ label-read s (D .propositions) a M k n d g))
       by (found L j) x = target L j x (stands rightBracket s j) refl
@@ -165,7 +165,7 @@ module _ (s : List ℕ) (D : Described) (i a : ℕ) where
   edge-of-says e (declared q b ∷ xs) f = edge-says q e (subst (Latest q) (sym f) of-state)
   edge-of-says e (edge q L r ∷ xs) f = edge-says q e (subst (Latest q) (sym f) of-edge)
 
-module _ (s : List ℕ) (D : Described) (i : ℕ) where
+module _ (s : List ℕ) (D : Description) (i : ℕ) where
   part-says : PartSays s D i (partAt s i D)
   unfolding partAt
   part-says = by (stands END s i) (stands State s i) (stands leftBracket s i) refl refl refl
@@ -182,14 +182,14 @@ module _ (s : List ℕ) (D : Described) (i : ℕ) where
       by false false true x y z = edge-of-says s D i (behind leftBracket s i) (a-token leftBracket s i z) (D .parts) refl
       by false false false x y z = no-part (no-token END s i x) (no-token State s i y) (no-token leftBracket s i z)
 
-pub part-next : (s : List ℕ) (i j : ℕ) (D E : Described) → partAt s i D ≡ next j E → NextPart s D i j E
+pub part-next : (s : List ℕ) (i j : ℕ) (D E : Description) → partAt s i D ≡ next j E → NextPart s D i j E
 part-next s i j D E e = subst (PartSays s D i) e (part-says s D i)
 
-abbrev BodySays : List ℕ → ℕ → Described → Read → Type 0
+abbrev BodySays : List ℕ → ℕ → Description → Read → Type 0
 BodySays s i D (refused n) = BodyFault s n i D
 BodySays s i D (describes E) = IsBody s E i D
 
-body-says : (n : ℕ) (s : List ℕ) (i : ℕ) (D : Described) → length s ≤ i + n → BodySays s i D (body n s (next i D))
+body-says : (n : ℕ) (s : List ℕ) (i : ℕ) (D : Description) → length s ≤ i + n → BodySays s i D (body n s (next i D))
 unfolding body
 body-says zero s i D h =
     let g : length s ≤ i = omega (arith, h) in
@@ -198,7 +198,7 @@ body-says zero s i D h =
     (no-token leftBracket s i (stands-past 0x5B _ s i (λ z. omega (arith, z)) g)))
 body-says (suc n) s i D h = by (body-says n s) (partAt s i D) (part-says s D i)
   where
-    by : ((j : ℕ) (E : Described) → length s ≤ j + n → BodySays s j E (body n s (next j E))) → (x : Step) → PartSays s D i x
+    by : ((j : ℕ) (E : Description) → length s ≤ j + n → BodySays s j E (body n s (next j E))) → (x : Step) → PartSays s D i x
         → BodySays s i D (body n s x)
     by ih (over (refused m)) f = subst (BodySays s i D) (sym (body-over n s (refused m))) (here f)
     by ih (over (describes E)) f = subst (BodySays s i D) (sym (body-over n s (describes E))) (ends (f .0) (f .1))

@@ -11,8 +11,8 @@ use Rattle.tokens.specs.Tokens.{stands, behind, Number, none, number}
 use Rattle.tokens.specs.Lexical.{IsToken, NoToken, IsNumber, NoNumber, IsName}
 use Rattle.tokens.proofs.LexicalLaws.{nameEnd, number-lexical, name-lexical, token-stands, token-behind, no-token-stands, number-at-none}
 use Rattle.hanoi.specs.Words.{accName, Buchi, quote}
-use Rattle.hanoi.specs.Reading.{refused, Step, over, outside, expect, expectNumber, check, names, named}
-use Rattle.hanoi.specs.Grammar.{Words, no-word, word, Numbered, numbered, Names, no-name, name, Named, is-named, is-unnamed}
+use Rattle.hanoi.specs.Reading.{refused, Step, over, outside, expect, expectNumber, check, names, accNameItem}
+use Rattle.hanoi.specs.Grammar.{Words, no-word, word, Numbered, numbered, Names, no-name, name, HasAccName, is-named, is-unnamed}
 use Rattle.hanoi.specs.Faults.{NoWords, first-word, later-word, NoNumbered, no-words, no-number, NoNames, first-name, later-name}
 use Rattle.hanoi.proofs.Cases.{expectAll}
 
@@ -98,14 +98,14 @@ module _ (s : List ℕ) (go : ℕ → Step) where
   names-refused {i = i} (first-name {k = k} n) = name-refused k i n
   names-refused (later-name {k = k} x y) = name-read k x ∙ names-refused y
 
-  named-by : (i : ℕ) (b : Bool) → stands accName s i ≡ b → named s i go ≡ elim b [ true ↦ expect Buchi s (behind accName s i) go | false ↦ go i ]
-  unfolding named
+  named-by : (i : ℕ) (b : Bool) → stands accName s i ≡ b → accNameItem s i go ≡ elim b [ true ↦ expect Buchi s (behind accName s i) go | false ↦ go i ]
+  unfolding accNameItem
   named-by i b e = ap (λ (x : Bool). elim x [ true ↦ expect Buchi s (behind accName s i) go | false ↦ go i ]) e
 
-  pub named-on : {i a : ℕ} → IsToken accName s i a → named s i go ≡ expect Buchi s a go
+  pub named-on : {i a : ℕ} → IsToken accName s i a → accNameItem s i go ≡ expect Buchi s a go
   named-on {i = i} x = named-by i true (token-stands x) ∙ ap (λ (a : ℕ). expect Buchi s a go) (token-behind x)
 
-  pub named-read : {i j : ℕ} → Named s i j → named s i go ≡ go j
+  pub named-read : {i j : ℕ} → HasAccName s i j → accNameItem s i go ≡ go j
   unfolding expectAll
   named-read {i = i} (is-named (word e x)) = named-on e ∙ words-read go x
   named-read {i = i} (is-unnamed e p) = named-by i false (no-token-stands accName s i e) ∙ ap go p

@@ -5,7 +5,7 @@ use mathlib.Core.Logic.{_⊎_, ⊎-elim}
 use mathlib.Core.List.{List, List·Memᴰ, List·Memᴰ·head, List·Memᴰ·not-nil, List·Memᴰ·cases-cons}
 use Prim.Native.Nat.{ℕ, _<_}
 use Rattle.labels.proofs.Below.{disjunction-below}
-use Rattle.hanoi.specs.Descriptions.{Part, declared, edge, Described, headed, with-part}
+use Rattle.hanoi.specs.Descriptions.{Part, declared, edge, Description, headed, extended}
 use Rattle.hanoi.specs.Reading.{refused, describes, next, header, partAt, readHanoi}
 use Rattle.hanoi.specs.Grammar.{has-states, has-start, has-propositions, HasNames, has-names, IsHeader, header-stands, Latest, of-state, of-edge, IsPart, state-part, edge-part, IsBody, ends, part, IsFile, file}
 use Rattle.hanoi.specs.Meaning.{IsDescribed, automatonOf, PartWithin, WellFormed}
@@ -25,7 +25,7 @@ headed-well-formed (has-names (has-propositions (has-start (has-states x a b) y 
       within = λ y m. absurd (List·Memᴰ·not-nil m);
     }
 
-header-well-formed : {s : List ℕ} {D : Described} {j : ℕ} → IsHeader s D j → WellFormed D
+header-well-formed : {s : List ℕ} {D : Description} {j : ℕ} → IsHeader s D j → WellFormed D
 header-well-formed (header-stands h a x e) = subst WellFormed (sym e) (headed-well-formed h)
 
 -- The parts.
@@ -35,11 +35,11 @@ latest-below : {q n k : ℕ} {xs : List Part} → Latest q xs → ((x : Part) �
 latest-below (of-state {b = b}) h = h (declared _ b) (List·Memᴰ·head refl)
 latest-below (of-edge {L = L} {r = r}) h = h (edge _ L r) (List·Memᴰ·head refl) .0
 
-part-within : {s : List ℕ} {D : Described} {i : ℕ} {x : Part} {j : ℕ} → WellFormed D → IsPart s D i x j → PartWithin (D .states) (D .propositions) x
+part-within : {s : List ℕ} {D : Description} {i : ℕ} {x : Part} {j : ℕ} → WellFormed D → IsPart s D i x j → PartWithin (D .states) (D .propositions) x
 part-within f (state-part x h d m) = h
 part-within f (edge-part e l d x h) = (latest-below l (f .within), disjunction-below d, h)
 
-part-well-formed : {s : List ℕ} {D : Described} {i : ℕ} {x : Part} {j : ℕ} → WellFormed D → IsPart s D i x j → WellFormed (with-part x D)
+part-well-formed : {s : List ℕ} {D : Description} {i : ℕ} {x : Part} {j : ℕ} → WellFormed D → IsPart s D i x j → WellFormed (extended x D)
 part-well-formed {D = D} f p =
     record {
       some-states = f .some-states;
@@ -49,23 +49,23 @@ part-well-formed {D = D} f p =
       within = λ y m. ⊎-elim (λ e. subst (PartWithin (D .states) (D .propositions)) (sym e) (part-within f p)) (f .within y) (List·Memᴰ·cases-cons m);
     }
 
-body-well-formed : {s : List ℕ} {E : Described} {i : ℕ} {D : Described} → WellFormed D → IsBody s E i D → WellFormed E
+body-well-formed : {s : List ℕ} {E : Description} {i : ℕ} {D : Description} → WellFormed D → IsBody s E i D → WellFormed E
 body-well-formed f (ends x e) = subst WellFormed e f
 body-well-formed f (part p b) = body-well-formed (part-well-formed f p) b
 
-file-well-formed : {s : List ℕ} {D : Described} → IsFile s D → WellFormed D
+file-well-formed : {s : List ℕ} {D : Description} → IsFile s D → WellFormed D
 file-well-formed (file h b) = body-well-formed (header-well-formed h) b
 
 -- What the reader comes to.
 
-pub hanoi-well-formed : (s : List ℕ) (D : Described) → readHanoi s ≡ describes D → WellFormed D
+pub hanoi-well-formed : (s : List ℕ) (D : Description) → readHanoi s ≡ describes D → WellFormed D
 hanoi-well-formed s D e = file-well-formed (hanoi-grammar s D .0 e)
 
 -- so are the descriptions on the way
-pub header-next-well-formed : (s : List ℕ) (i : ℕ) (D : Described) → header s ≡ next i D → WellFormed D
+pub header-next-well-formed : (s : List ℕ) (i : ℕ) (D : Description) → header s ≡ next i D → WellFormed D
 header-next-well-formed s i D e = header-well-formed (header-next s i D e)
 
-pub part-next-well-formed : (s : List ℕ) (i j : ℕ) (D E : Described) → WellFormed D → partAt s i D ≡ next j E → WellFormed E
+pub part-next-well-formed : (s : List ℕ) (i j : ℕ) (D E : Description) → WellFormed D → partAt s i D ≡ next j E → WellFormed E
 part-next-well-formed s i j D E f e = by (part-next s i j D E e)
   where
     by : NextPart s D i j E → WellFormed E
@@ -76,5 +76,5 @@ pub hanoi-refusals : (s : List ℕ) (n : ℕ) → readHanoi s ≡ refused n → 
 hanoi-refusals s n e = fault-number (hanoi-refused-iff s n .0 e)
 
 -- the automaton of a file is computed
-pub hanoi-describes : (s : List ℕ) (D : Described) → IsFile s D → IsDescribed D (automatonOf D)
+pub hanoi-describes : (s : List ℕ) (D : Description) → IsFile s D → IsDescribed D (automatonOf D)
 hanoi-describes s D f = described D (file-well-formed f)

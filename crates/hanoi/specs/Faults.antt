@@ -1,5 +1,5 @@
--- The first fault of a text that is no Hanoi file (02, S-2): up to a place the text goes by the rules of `Grammar`, and there it goes by none, or a number
--- ends whose value is outside its range.
+-- The first fault of a text that is no Hanoi file (02, S-2): up to a place the text goes by the rules of `Grammar`, and there it goes by none: no token that
+-- may stand there does, a number ends whose value is outside its range, a state is declared again, or an edge has no state before it.
 --   NoWords s ws i      one of the tokens ws does not stand, those before it do
 --   NoNumbered s ws i   these, or the number behind them
 --   NoNames s k i       one of k names
@@ -17,9 +17,8 @@ use Rattle.tokens.specs.Lexical.{Run, IsToken, NoToken, NoNumber, IsName}
 use Rattle.labels.specs.Labels.{Label}
 use Rattle.labels.specs.LabelGrammar.{IsLabel}
 use Rattle.hanoi.specs.Words.{Start, AP, accName, Buchi, zeroWord, END, State, leftBrace, rightBrace, leftBracket, rightBracket}
-use Rattle.hanoi.specs.Descriptions.{Part, Described, with-part}
-use Rattle.hanoi.specs.Reading.{maxPropositions}
-use Rattle.hanoi.specs.Grammar.{Words, Numbered, statesWords, acceptanceWords, HasStates, HasStart, HasPropositions, HasNames, Named, IsHeader, Latest, Declares, IsPart}
+use Rattle.hanoi.specs.Descriptions.{maxPropositions, Part, Description, extended}
+use Rattle.hanoi.specs.Grammar.{Words, Numbered, statesWords, acceptanceWords, HasStates, HasStart, HasPropositions, HasNames, HasAccName, IsHeader, Latest, Declares, IsPart}
 
 pub data NoWords (s : List ℕ) : List (List ℕ) → ℕ → Type 0 where
   first-word : {w : List ℕ} {ws : List (List ℕ)} {i : ℕ} → NoToken w s i → NoWords s (w ∷ ws) i
@@ -41,10 +40,10 @@ pub data HeaderFault (s : List ℕ) : ℕ → Type 0 where
   no-propositions : {n q i : ℕ} → HasStart s n q i → NoNumbered s (AP ∷ []) i → HeaderFault s 17
   many-propositions : {n q i k j : ℕ} → HasStart s n q i → Numbered s (AP ∷ []) i k j → maxPropositions < k → HeaderFault s 18
   no-names : {n q k i : ℕ} → HasPropositions s n q k i → NoNames s k i → HeaderFault s 17
-  other-name : {n q k i a : ℕ} → HasNames s n q k i → IsToken accName s i a → NoToken Buchi s a → HeaderFault s 17
-  no-acceptance : {n q k i j : ℕ} → HasNames s n q k i → Named s i j → NoWords s acceptanceWords j → HeaderFault s 17
+  other-acc-name : {n q k i a : ℕ} → HasNames s n q k i → IsToken accName s i a → NoToken Buchi s a → HeaderFault s 17
+  no-acceptance : {n q k i j : ℕ} → HasNames s n q k i → HasAccName s i j → NoWords s acceptanceWords j → HeaderFault s 17
 
-pub data PartFault (s : List ℕ) (D : Described) (i : ℕ) : ℕ → Type 0 where
+pub data PartFault (s : List ℕ) (D : Description) (i : ℕ) : ℕ → Type 0 where
   no-part : NoToken END s i → NoToken State s i → NoToken leftBracket s i → PartFault s D i 17
   more-text : {a : ℕ} → IsToken END s i a → (Run (λ b. white b) s a (length s) → ⊥) → PartFault s D i 17
   no-state : {a : ℕ} → IsToken State s i a → NoNumber s a → PartFault s D i 17
@@ -62,10 +61,10 @@ pub data PartFault (s : List ℕ) (D : Described) (i : ℕ) : ℕ → Type 0 whe
       → IsLabel s (D .propositions) a L j → Numbered s (rightBracket ∷ []) j r l → D .states ≤ r
       → PartFault s D i 4
 
-pub data BodyFault (s : List ℕ) (n : ℕ) : ℕ → Described → Type 0 where
-  here : {i : ℕ} {D : Described} → PartFault s D i n → BodyFault s n i D
-  later : {i : ℕ} {D : Described} {x : Part} {j : ℕ} → IsPart s D i x j → BodyFault s n j (with-part x D) → BodyFault s n i D
+pub data BodyFault (s : List ℕ) (n : ℕ) : ℕ → Description → Type 0 where
+  here : {i : ℕ} {D : Description} → PartFault s D i n → BodyFault s n i D
+  later : {i : ℕ} {D : Description} {x : Part} {j : ℕ} → IsPart s D i x j → BodyFault s n j (extended x D) → BodyFault s n i D
 
 pub data Fault (s : List ℕ) (n : ℕ) : Type 0 where
   in-header : HeaderFault s n → Fault s n
-  in-body : {D : Described} {i : ℕ} → IsHeader s D i → BodyFault s n i D → Fault s n
+  in-body : {D : Description} {i : ℕ} → IsHeader s D i → BodyFault s n i D → Fault s n

@@ -20,9 +20,8 @@ use Rattle.tokens.specs.Tokens.{white}
 use Rattle.tokens.specs.Lexical.{Run, IsToken, NoToken, IsNumber, IsName}
 use Rattle.labels.specs.Labels.{Label}
 use Rattle.labels.specs.LabelGrammar.{IsLabel}
-use Rattle.hanoi.specs.Words.{HOA, v1, States, Start, AP, accName, Buchi, Acceptance, one, Inf, left, zeroWord, right, BODY, END, State, leftBrace, rightBrace, leftBracket, rightBracket}
-use Rattle.hanoi.specs.Descriptions.{Part, declared, edge, Described, headed, with-part}
-use Rattle.hanoi.specs.Reading.{maxPropositions}
+use Rattle.hanoi.specs.Words.{HOA, v1, States, Start, AP, accName, Buchi, Acceptance, oneWord, Inf, left, zeroWord, right, BODY, END, State, leftBrace, rightBrace, leftBracket, rightBracket}
+use Rattle.hanoi.specs.Descriptions.{maxPropositions, Part, declared, edge, Description, headed, extended}
 
 -- Tokens, numbers and names.
 
@@ -43,7 +42,7 @@ abbrev pub statesWords : List (List ℕ)
 statesWords = HOA ∷ v1 ∷ States ∷ []
 
 abbrev pub acceptanceWords : List (List ℕ)
-acceptanceWords = Acceptance ∷ one ∷ Inf ∷ left ∷ zeroWord ∷ right ∷ BODY ∷ []
+acceptanceWords = Acceptance ∷ oneWord ∷ Inf ∷ left ∷ zeroWord ∷ right ∷ BODY ∷ []
 
 pub data HasStates (s : List ℕ) (n j : ℕ) : Type 0 where
   has-states : Numbered s statesWords 0 n j → 1 ≤ n → n ≤ maxStates → HasStates s n j
@@ -58,12 +57,12 @@ pub data HasNames (s : List ℕ) (n q k j : ℕ) : Type 0 where
   has-names : {i : ℕ} → HasPropositions s n q k i → Names s k i j → HasNames s n q k j
 
 -- `acc-name: Buchi`, which may be left out
-pub data Named (s : List ℕ) (i j : ℕ) : Type 0 where
-  is-named : Words s (accName ∷ Buchi ∷ []) i j → Named s i j
-  is-unnamed : NoToken accName s i → i ≡ j → Named s i j
+pub data HasAccName (s : List ℕ) (i j : ℕ) : Type 0 where
+  is-named : Words s (accName ∷ Buchi ∷ []) i j → HasAccName s i j
+  is-unnamed : NoToken accName s i → i ≡ j → HasAccName s i j
 
-pub data IsHeader (s : List ℕ) (D : Described) (j : ℕ) : Type 0 where
-  header-stands : {n q k a b : ℕ} → HasNames s n q k a → Named s a b → Words s acceptanceWords b j → D ≡ headed n q k → IsHeader s D j
+pub data IsHeader (s : List ℕ) (D : Description) (j : ℕ) : Type 0 where
+  header-stands : {n q k a b : ℕ} → HasNames s n q k a → HasAccName s a b → Words s acceptanceWords b j → D ≡ headed n q k → IsHeader s D j
 
 -- The body.
 
@@ -82,7 +81,7 @@ pub data Declares (q : ℕ) : List Part → Type 0 where
   declares : {b : Bool} {xs : List Part} → Declares q (declared q b ∷ xs)
   declares-before : {x : Part} {xs : List Part} → Declares q xs → Declares q (x ∷ xs)
 
-pub data IsPart (s : List ℕ) (D : Described) : ℕ → Part → ℕ → Type 0 where
+pub data IsPart (s : List ℕ) (D : Description) : ℕ → Part → ℕ → Type 0 where
   state-part : {i q j : ℕ} {b : Bool} {l : ℕ} → Numbered s (State ∷ []) i q j → q < D .states → (Declares q (D .parts) → ⊥)
       → Marked s j b l → IsPart s D i (declared q b) l
   edge-part : {i a q : ℕ} {L : Label} {j r l : ℕ} → IsToken leftBracket s i a → Latest q (D .parts)
@@ -93,9 +92,9 @@ pub data IsPart (s : List ℕ) (D : Described) : ℕ → Part → ℕ → Type 0
 pub data IsEnd (s : List ℕ) (i : ℕ) : Type 0 where
   is-end : {a : ℕ} → IsToken END s i a → Run (λ b. white b) s a (length s) → IsEnd s i
 
-pub data IsBody (s : List ℕ) (E : Described) : ℕ → Described → Type 0 where
-  ends : {i : ℕ} {D : Described} → IsEnd s i → D ≡ E → IsBody s E i D
-  part : {i : ℕ} {D : Described} {x : Part} {j : ℕ} → IsPart s D i x j → IsBody s E j (with-part x D) → IsBody s E i D
+pub data IsBody (s : List ℕ) (E : Description) : ℕ → Description → Type 0 where
+  ends : {i : ℕ} {D : Description} → IsEnd s i → D ≡ E → IsBody s E i D
+  part : {i : ℕ} {D : Description} {x : Part} {j : ℕ} → IsPart s D i x j → IsBody s E j (extended x D) → IsBody s E i D
 
-pub data IsFile (s : List ℕ) (E : Described) : Type 0 where
-  file : {D : Described} {i : ℕ} → IsHeader s D i → IsBody s E i D → IsFile s E
+pub data IsFile (s : List ℕ) (E : Description) : Type 0 where
+  file : {D : Description} {i : ℕ} → IsHeader s D i → IsBody s E i D → IsFile s E

@@ -7,11 +7,11 @@ use mathlib.Core.List.{List}
 use Prim.Native.Nat.{ℕ}
 use Rattle.fixed_form.specs.declared.WriteAnswer.the-variants.{Refused}
 use Rattle.fixed_form.specs.Write.{Write, writing}
-use Rattle.hanoi.specs.Descriptions.{Described}
+use Rattle.hanoi.specs.Descriptions.{Description}
 use Rattle.hanoi.specs.Reading.{Read, refused, describes, readHanoi}
 use Rattle.hanoi.specs.Meaning.{automatonOf}
 
-abbrev pub onText : {X : Type 0} → Read → (ℕ → X) → (Described → X) → X
+abbrev pub onText : {X : Type 0} → Read → (ℕ → X) → (Description → X) → X
 onText (refused n) stop go = stop n
 onText (describes D) stop go = go D
 

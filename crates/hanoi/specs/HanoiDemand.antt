@@ -7,20 +7,22 @@
 --   HanoiBack s          what was written is the fixed form of the text's automaton, and reading it gives that automaton
 -- Shown by `hanoi-demand-1` and `hanoi-read-back`. Assumes nothing.
 use mathlib.Core.Path.{_≡_}
+use mathlib.Core.Bool.{false}
 use mathlib.Core.List.{List, _++_}
 use mathlib.Core.Logic.{_↔_, _⊎_}
 use Prim.Native.Nat.{ℕ, _≤_, _<_}
 use lib.ListN.{length, take, drop}
 use Rattle.automaton.specs.declared.Automaton.{Automaton}
+use Rattle.automaton.specs.Automata.{accepts, transition}
 use Rattle.format.specs.File.{holds, readFile}
 use Rattle.checks.specs.Checks.{First}
 use Rattle.fixed_form.specs.declared.WriteAnswer.{WriteAnswer}
 use Rattle.fixed_form.specs.declared.WriteAnswer.the-variants.{Wrote, Refused, NoRoom}
 use Rattle.fixed_form.specs.FixedForm.{FixedForm, written}
 use Rattle.fixed_form.specs.WriteDemand.{shortestFile, longestFile}
-use Rattle.hanoi.specs.Descriptions.{Described}
+use Rattle.hanoi.specs.Descriptions.{Description}
 use Rattle.hanoi.specs.Reading.{refused, describes, readHanoi}
-use Rattle.hanoi.specs.Grammar.{IsFile}
+use Rattle.hanoi.specs.Grammar.{Declares, IsFile}
 use Rattle.hanoi.specs.Faults.{Fault}
 use Rattle.hanoi.specs.Meaning.{IsDescribed, automatonOf}
 use Rattle.hanoi.specs.Hanoi.{hanoiOf}
@@ -33,12 +35,15 @@ HanoiListed room (Wrote len) = (shortestFile ≤ len) × (len ≤ longestFile) �
 
 pub record TextReads (s : List ℕ) : Type 0 where
   -- the text describes D exactly when it is a file of the grammar that says D
-  pub grammar : (D : Described) → (readHanoi s ≡ describes D) ↔ IsFile s D
+  pub grammar : (D : Description) → (readHanoi s ≡ describes D) ↔ IsFile s D
   -- it is refused with n exactly when its first fault is n
   pub faults : (n : ℕ) → (readHanoi s ≡ refused n) ↔ Fault s n
   -- the automaton that is computed is the one that D describes, transition by transition, and there is no other
-  pub automaton : (D : Described) → IsFile s D → IsDescribed D (automatonOf D)
-  pub only : (D : Described) (A : Automaton) → IsFile s D → IsDescribed D A → A ≡ automatonOf D
+  pub automaton : (D : Description) → IsFile s D → IsDescribed D (automatonOf D)
+  pub only : (D : Description) (A : Automaton) → IsFile s D → IsDescribed D A → A ≡ automatonOf D
+  -- a state that is not declared has no edges and does not accept
+  pub undeclared : (D : Description) (A : Automaton) (q : ℕ) → IsFile s D → IsDescribed D A → (Declares q (D .parts) → ⊥)
+      → (accepts A q ≡ false) × ((a r : ℕ) → transition A q a r ≡ false)
 
 module _ (s out : List ℕ) where
   abbrev pub AfterHanoi : WriteAnswer → List ℕ → Type 0

@@ -12,13 +12,13 @@ use Rattle.checks.specs.Checks.{Row, answersBy}
 use Rattle.fixed_form.specs.declared.WriteAnswer.{WriteAnswer}
 use Rattle.fixed_form.specs.declared.WriteAnswer.the-variants.{Wrote, Refused, NoRoom}
 use Rattle.fixed_form.specs.FixedForm.{written}
-use Rattle.hanoi.specs.Descriptions.{Described}
+use Rattle.hanoi.specs.Descriptions.{Description}
 use Rattle.hanoi.specs.Grammar.{IsFile}
 use Rattle.hanoi.specs.Faults.{Fault}
 use Rattle.hanoi.specs.Meaning.{IsDescribed}
 
 pub record TextHolds (s : List ℕ) (P : Automaton → Type 0) : Type 0 where
-  pub description : Described
+  pub description : Description
   pub says : IsFile s description
   pub automaton : Automaton
   pub described : IsDescribed description automaton

@@ -4,7 +4,8 @@
 --   IsDescribed D A    and A is in range and held in bytes, as the automaton of a file is: it is the automaton of D
 --   automatonOf D      it, computed part by part
 --   WellFormed D       the numbers of D are in their ranges, as those of every text that is read are
--- Shown by `hanoi-describes`: of a text that is read, `automatonOf D` is the automaton of D, and it is the only one. Assumes nothing.
+-- Shown by `hanoi-describes`: of a file of the grammar, `automatonOf D` is the automaton of D; by `described-only`: there is no other; by `undeclared-bare`: a
+-- state that is not declared does not accept, and has no transitions. Assumes nothing.
 use mathlib.Core.Path.{_≡_}
 use mathlib.Core.Bool.{Bool, true, false}
 use mathlib.Core.Logic.{_↔_}
@@ -15,22 +16,21 @@ use Rattle.automaton.specs.declared.Automaton.{Automaton}
 use Rattle.automaton.specs.Sets.{Bytes}
 use Rattle.automaton.specs.Automata.{maxStates, accepts, transition, bare, withAccepting, withTransition, InRange}
 use Rattle.labels.specs.Labels.{Label, truth, Below}
-use Rattle.hanoi.specs.Descriptions.{Part, declared, edge, Described}
-use Rattle.hanoi.specs.Reading.{maxPropositions}
+use Rattle.hanoi.specs.Descriptions.{maxPropositions, Part, declared, edge, Description}
 
 pub record Edge (parts : List Part) (q a r : ℕ) : Type 0 where
   pub label : Label
   pub stands : List·Memᴰ (edge q label r) parts
   pub true-at : T (truth label a)
 
-pub record Describes (D : Described) (A : Automaton) : Type 0 where
+pub record Describes (D : Description) (A : Automaton) : Type 0 where
   pub states : A .states ≡ D .states
   pub letters : A .letters ≡ 2 ^ (D .propositions)
   pub initial : A .initial ≡ D .start
   pub accepting : (q : ℕ) → T (accepts A q) ↔ List·Memᴰ (declared q true) (D .parts)
   pub transitions : (q a r : ℕ) → T (transition A q a r) ↔ ((a < A .letters) × Edge (D .parts) q a r)
 
-pub record IsDescribed (D : Described) (A : Automaton) : Type 0 where
+pub record IsDescribed (D : Description) (A : Automaton) : Type 0 where
   pub describes : Describes D A
   pub in-range : InRange A
   pub accepting-bytes : Bytes 4 (A .accepting)
@@ -51,14 +51,14 @@ unfoldable pub withParts : Automaton → List Part → Automaton
 withParts A [] = A
 withParts A (x ∷ xs) = withPart (withParts A xs) x
 
-unfoldable pub automatonOf : Described → Automaton
+unfoldable pub automatonOf : Description → Automaton
 automatonOf D = withParts (bare (D .states) (2 ^ (D .propositions)) (D .start)) (D .parts)
 
 abbrev pub PartWithin : ℕ → ℕ → Part → Type 0
 PartWithin n k (declared q b) = q < n
 PartWithin n k (edge q L r) = (q < n) × Below k L × (r < n)
 
-pub record WellFormed (D : Described) : Type 0 where
+pub record WellFormed (D : Description) : Type 0 where
   pub some-states : 1 ≤ D .states
   pub few-states : D .states ≤ maxStates
   pub start-below : D .start < D .states

@@ -5,7 +5,7 @@
 --   expect w s i go       the token w stands at place i of s, and the reading goes on behind it; else the refusal is 17
 --   expectNumber s i go   the same of a number, which is handed on
 --   check b n x     x where the test holds; else the refusal n
---   statesItem, startItem, propositionsItem, headerEnd   the header's items
+--   statesItem, startItem, propositionsItem, headerEnd   the header's items; fromStart, fromPropositions: it and all behind it
 --   header s        the header and `--BODY--`
 --   partAt s i D    the state, the edge or the end at place i, with what stands before it in D
 --   readHanoi s     the whole text
@@ -19,20 +19,16 @@ use lib.ListN.{length, getD, drop}
 use Rattle.automaton.specs.Automata.{maxStates}
 use Rattle.tokens.specs.Tokens.{skip, stands, behind, Number, none, number, numberAt, nameBytes}
 use Rattle.labels.specs.LabelReading.{Found, absent, found, labelAt}
-use Rattle.hanoi.specs.Words.{HOA, v1, States, Start, AP, quote, accName, Buchi, Acceptance, one, Inf, left, zeroWord, right, BODY, END, State, leftBrace, rightBrace, leftBracket, rightBracket}
-use Rattle.hanoi.specs.Descriptions.{Part, declared, edge, Described, headed, with-part}
-
--- the most propositions: their letters are the most that a file has
-abbrev pub maxPropositions : ℕ
-maxPropositions = 4
+use Rattle.hanoi.specs.Words.{HOA, v1, States, Start, AP, quote, accName, Buchi, Acceptance, oneWord, Inf, left, zeroWord, right, BODY, END, State, leftBrace, rightBrace, leftBracket, rightBracket}
+use Rattle.hanoi.specs.Descriptions.{maxPropositions, Part, declared, edge, Description, headed, extended}
 
 pub data Read : Type 0 where
   refused : ℕ → Read
-  describes : Described → Read
+  describes : Description → Read
 
 pub data Step : Type 0 where
   over : Read → Step
-  next : ℕ → Described → Step
+  next : ℕ → Description → Step
 
 -- the text is outside the subset
 abbrev pub outside : Step
@@ -69,25 +65,27 @@ names (suc k) s i go =
     elim (eqb (getD s e 0) 0x22) [ true ↦ names k s (e + 1) go | false ↦ outside ])
 
 -- `acc-name: Buchi`, which may be left out
-unfoldable pub named : List ℕ → ℕ → (ℕ → Step) → Step
-named s i go = elim (stands accName s i) [ true ↦ expect Buchi s (behind accName s i) go | false ↦ go i ]
+unfoldable pub accNameItem : List ℕ → ℕ → (ℕ → Step) → Step
+accNameItem s i go = elim (stands accName s i) [ true ↦ expect Buchi s (behind accName s i) go | false ↦ go i ]
 
 -- `Acceptance: 1 Inf(0)`, and what ends the header
 abbrev pub acceptanceItem : List ℕ → ℕ → (ℕ → Step) → Step
 acceptanceItem s i go =
-    expect Acceptance s i (λ i. expect one s i (λ i. expect Inf s i (λ i. expect left s i (λ i. expect zeroWord s i (λ i. expect right s i (λ i.
+    expect Acceptance s i (λ i. expect oneWord s i (λ i. expect Inf s i (λ i. expect left s i (λ i. expect zeroWord s i (λ i. expect right s i (λ i.
     expect BODY s i go))))))
 
 abbrev pub headerEnd : ℕ → List ℕ → ℕ → (ℕ → Step) → Step
-headerEnd k s i go = names k s i (λ i. named s i (λ i. acceptanceItem s i go))
+headerEnd k s i go = names k s i (λ i. accNameItem s i (λ i. acceptanceItem s i go))
+
+-- from the number of propositions on, and from the start state on
+abbrev pub fromPropositions : List ℕ → ℕ → ℕ → ℕ → Step
+fromPropositions s n q i = propositionsItem s i (λ k i. headerEnd k s i (λ i. next i (headed n q k)))
+
+abbrev pub fromStart : List ℕ → ℕ → ℕ → Step
+fromStart s n i = startItem n s i (λ q i. fromPropositions s n q i)
 
 unfoldable pub header : List ℕ → Step
-header s =
-    statesItem s (λ n i.
-    startItem n s i (λ q i.
-    propositionsItem s i (λ k i.
-    headerEnd k s i (λ i.
-    next i (headed n q k)))))
+header s = statesItem s (λ n i. fromStart s n i)
 
 -- The body.
 
@@ -104,31 +102,34 @@ acceptance s i go =
       | false ↦ go false i
     ]
 
--- behind `State:`; a second declaration is outside the subset
-unfoldable pub stateAt : List ℕ → ℕ → Described → Step
-stateAt s i D =
-    expectNumber s i (λ q j. check (ltb q (D .states)) 4 (check (not (isDeclared q (D .parts))) 17 (
-    acceptance s j (λ b k. next k (with-part (declared q b) D)))))
+-- the state q is declared, whose number ends at place i; a second declaration is outside the subset
+abbrev pub declaration : List ℕ → ℕ → ℕ → Description → Step
+declaration s i q D =
+    check (not (isDeclared q (D .parts))) 17 (acceptance s i (λ b k. next k (extended (declared q b) D)))
+
+-- behind `State:`
+unfoldable pub stateAt : List ℕ → ℕ → Description → Step
+stateAt s i D = expectNumber s i (λ q j. check (ltb q (D .states)) 4 (declaration s j q D))
 
 -- an edge of the state q, behind its `[`
-unfoldable pub edgeAt : List ℕ → ℕ → ℕ → Described → Step
+unfoldable pub edgeAt : List ℕ → ℕ → ℕ → Description → Step
 edgeAt s i q D =
     elim (labelAt s (D .propositions) i) [
       | absent ↦ outside
-      | found L j ↦ expect rightBracket s j (λ k. expectNumber s k (λ r l. check (ltb r (D .states)) 4 (next l (with-part (edge q L r) D))))
+      | found L j ↦ expect rightBracket s j (λ k. expectNumber s k (λ r l. check (ltb r (D .states)) 4 (next l (extended (edge q L r) D))))
     ]
 
 -- an edge belongs to the state declared last before it
-unfoldable pub edgeOf : List ℕ → ℕ → List Part → Described → Step
+unfoldable pub edgeOf : List ℕ → ℕ → List Part → Description → Step
 edgeOf s i [] D = outside
 edgeOf s i (declared q b ∷ xs) D = edgeAt s i q D
 edgeOf s i (edge q L r ∷ xs) D = edgeAt s i q D
 
 -- behind `--END--` stands white space alone
-unfoldable pub endAt : List ℕ → ℕ → Described → Step
+unfoldable pub endAt : List ℕ → ℕ → Description → Step
 endAt s i D = elim (eqb (skip s i) (length s)) [ true ↦ over (describes D) | false ↦ outside ]
 
-unfoldable pub partAt : List ℕ → ℕ → Described → Step
+unfoldable pub partAt : List ℕ → ℕ → Description → Step
 partAt s i D =
     elim (stands END s i) [
       | true ↦ endAt s (behind END s i) D

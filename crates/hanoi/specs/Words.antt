@@ -28,8 +28,8 @@ Buchi = spelled "Buchi"
 abbrev pub Acceptance : List ℕ
 Acceptance = spelled "Acceptance:"
 
-abbrev pub one : List ℕ
-one = spelled "1"
+abbrev pub oneWord : List ℕ
+oneWord = spelled "1"
 
 abbrev pub Inf : List ℕ
 Inf = spelled "Inf"

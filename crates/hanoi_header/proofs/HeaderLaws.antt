@@ -11,16 +11,16 @@ use Rattle.tokens.specs.declared.Went.{Went}
 use Rattle.tokens.specs.declared.Went.the-variants.{Nowhere, Behind}
 use Rattle.tokens.specs.Places.{tokenAt, goesOn, Past}
 use Rattle.tokens.proofs.Places.{past-behind}
-use Rattle.hanoi.specs.Words.{HOA, v1, States, Start as StartWord, AP, Buchi, Acceptance, one, Inf, left, zeroWord, right, BODY}
+use Rattle.hanoi.specs.Words.{HOA, v1, States, Start as StartWord, AP, Buchi, Acceptance, oneWord, Inf, left, zeroWord, right, BODY}
 use Rattle.hanoi.specs.Descriptions.{headed}
-use Rattle.hanoi.specs.Reading.{Step, over, next, refused, outside, expect, expectNumber, check, statesItem, startItem, propositionsItem, names, named, acceptanceItem, headerEnd, header}
+use Rattle.hanoi.specs.Reading.{Step, over, next, refused, outside, expect, expectNumber, check, statesItem, startItem, propositionsItem, names, accNameItem, acceptanceItem, headerEnd, fromPropositions, fromStart, header}
 use Rattle.hanoi_header.specs.declared.Header.{Header}
 use Rattle.hanoi_header.specs.declared.Item.{Item}
 use Rattle.hanoi_header.specs.declared.Item.the-variants.{Refused, Value}
 use Rattle.hanoi_header.specs.declared.Start.{Start}
 use Rattle.hanoi_header.specs.declared.Start.the-variants.{NoHeader, Begins}
 use Rattle.hanoi_header.specs.Items.{onward, onwardValue, PastValue}
-use Rattle.hanoi_header.specs.Headers.{startStep, PastHeader, fromStart, fromPropositions}
+use Rattle.hanoi_header.specs.Headers.{startStep, PastHeader}
 use Rattle.hanoi_header.proofs.ItemLaws.{token-read, then-read, value-read, value-refused, went-read, went-nowhere, past-value}
 
 -- what number_in promises of its answer r behind x
@@ -54,11 +54,11 @@ module _ (s : List ℕ) where
       → (go : ℕ → ℕ → Step) → propositionsItem s i go ≡ onwardValue r go
   propositions-read i a r d k go = token-read AP s i a d _ ∙ k (λ k. leb k 4) (λ v. at-most v 4 ∙ from-zero v (ltb v 5)) go
 
-  pub acceptance-read : (i : ℕ) (a b c d e f g : Went) → a ≡ tokenAt Acceptance s i → b ≡ goesOn a (tokenAt one s) → c ≡ goesOn b (tokenAt Inf s)
+  pub acceptance-read : (i : ℕ) (a b c d e f g : Went) → a ≡ tokenAt Acceptance s i → b ≡ goesOn a (tokenAt oneWord s) → c ≡ goesOn b (tokenAt Inf s)
       → d ≡ goesOn c (tokenAt left s) → e ≡ goesOn d (tokenAt zeroWord s) → f ≡ goesOn e (tokenAt right s) → g ≡ goesOn f (tokenAt BODY s)
       → (go : ℕ → Step) → acceptanceItem s i go ≡ onward g go
   acceptance-read i a b c d e f g h₁ h₂ h₃ h₄ h₅ h₆ h₇ go =
-      token-read Acceptance s i a h₁ _ ∙ then-read one s a b h₂ _ ∙ then-read Inf s b c h₃ _ ∙ then-read left s c d h₄ _ ∙ then-read zeroWord s d e h₅ _
+      token-read Acceptance s i a h₁ _ ∙ then-read oneWord s a b h₂ _ ∙ then-read Inf s b c h₃ _ ∙ then-read left s c d h₄ _ ∙ then-read zeroWord s d e h₅ _
       ∙ then-read right s e f h₆ _ ∙ then-read BODY s f g h₇ go
 
   -- the end of the header, after the names x and `acc-name:` y
@@ -67,7 +67,7 @@ module _ (s : List ℕ) where
     unfolding onward
     end-unnamed e go = h _ ∙ went-nowhere x e _
 
-    module _ (j : ℕ) (e : x ≡ Behind j) (y : Went) (g : (go : ℕ → Step) → named s j go ≡ onward y go) where
+    module _ (j : ℕ) (e : x ≡ Behind j) (y : Went) (g : (go : ℕ → Step) → accNameItem s j go ≡ onward y go) where
       pub end-other : y ≡ Nowhere → (go : ℕ → Step) → headerEnd k s i go ≡ onward Nowhere go
       unfolding onward
       end-other f go = h _ ∙ went-read x j e _ ∙ g _ ∙ went-nowhere y f _

@@ -16,7 +16,7 @@ use Rattle.tokens.specs.Tokens.{stands, behind, Number, none, number, numberAt,
 use Rattle.tokens.specs.Places.{tokenAt, goesOn, nameFrom, nameAt, capped, Past, PastNumber}
 use Rattle.tokens.proofs.LexicalLaws.{and-left, and-right}
 use Rattle.hanoi.specs.Words.{accName, Buchi, quote, leftBrace, zeroWord, rightBrace}
-use Rattle.hanoi.specs.Reading.{Step, over, refused, outside, expect, expectNumber, check, names, named, acceptance}
+use Rattle.hanoi.specs.Reading.{Step, over, refused, outside, expect, expectNumber, check, names, accNameItem, acceptance}
 use Rattle.hanoi_header.specs.declared.Item.{Item}
 use Rattle.hanoi_header.specs.declared.Item.the-variants.{Refused, Value}
 use Rattle.hanoi_header.specs.Items.{onward, onwardValue, checkedValue, PastValue}
@@ -213,12 +213,12 @@ module _ (w s : List ℕ) (i : ℕ) (x : Went) (h : x ≡ tokenAt w s i) (go : �
   pub not-there : x ≡ Nowhere → ifStands (stands w s i) (behind w s i) go otherwise ≡ otherwise
   not-there e = by-token ∙ ap (λ (y : Went). orElse y go otherwise) e
 
-pub unnamed : (s : List ℕ) (i : ℕ) (x : Went) → x ≡ tokenAt accName s i → x ≡ Nowhere → (go : ℕ → Step) → named s i go ≡ go i
-unfolding named
+pub unnamed : (s : List ℕ) (i : ℕ) (x : Went) → x ≡ tokenAt accName s i → x ≡ Nowhere → (go : ℕ → Step) → accNameItem s i go ≡ go i
+unfolding accNameItem
 unnamed s i x h e go = not-there accName s i x h (λ j. expect Buchi s j go) (go i) e
 
-pub is-named : (s : List ℕ) (i : ℕ) (x : Went) (j : ℕ) → x ≡ tokenAt accName s i → x ≡ Behind j → (go : ℕ → Step) → named s i go ≡ expect Buchi s j go
-unfolding named
+pub is-named : (s : List ℕ) (i : ℕ) (x : Went) (j : ℕ) → x ≡ tokenAt accName s i → x ≡ Behind j → (go : ℕ → Step) → accNameItem s i go ≡ expect Buchi s j go
+unfolding accNameItem
 is-named s i x j h e go = there accName s i x h (λ j. expect Buchi s j go) (go i) j e
 
 pub unmarked : (s : List ℕ) (i : ℕ) (x : Went) → x ≡ tokenAt leftBrace s i → x ≡ Nowhere → (go : Bool → ℕ → Step) → acceptance s i go ≡ go false i

@@ -3,19 +3,18 @@
 --   InRanges h          the header's values are in their ranges
 --   startStep x         what the header comes to, as a step of the reading
 --   PastHeader s x      a header that is read is in its ranges, and ends in the text s or at its end
---   fromStart, fromPropositions   the header from an item on
 -- Assumes nothing.
 use mathlib.Core.List.{List}
 use Prim.Native.Nat.{ℕ, _≤_, _<_}
 use lib.ListN.{length}
 use Rattle.automaton.specs.Automata.{maxStates}
-use Rattle.hanoi.specs.Descriptions.{Described, headed}
-use Rattle.hanoi.specs.Reading.{maxPropositions, Step, over, next, refused, startItem, propositionsItem, headerEnd}
+use Rattle.hanoi.specs.Descriptions.{maxPropositions, Description, headed}
+use Rattle.hanoi.specs.Reading.{Step, over, next, refused}
 use Rattle.hanoi_header.specs.declared.Header.{Header}
 use Rattle.hanoi_header.specs.declared.Start.{Start}
 use Rattle.hanoi_header.specs.declared.Start.the-variants.{NoHeader, Begins}
 
-abbrev pub headedBy : Header → Described
+abbrev pub headedBy : Header → Description
 headedBy h = headed (h .states) (h .start) (h .propositions)
 
 abbrev pub InRanges : Header → Type 0
@@ -28,9 +27,3 @@ startStep (Begins h j) = next j (headedBy h)
 unfoldable pub PastHeader : List ℕ → Start → Type 0
 PastHeader s (NoHeader n) = Unit {0}
 PastHeader s (Begins h j) = InRanges h × (1 ≤ j) × (j ≤ length s)
-
-abbrev pub fromPropositions : List ℕ → ℕ → ℕ → ℕ → Step
-fromPropositions s n q i = propositionsItem s i (λ k i. headerEnd k s i (λ i. next i (headed n q k)))
-
-abbrev pub fromStart : List ℕ → ℕ → ℕ → Step
-fromStart s n i = startItem n s i (λ q i. fromPropositions s n q i)

@@ -13,13 +13,15 @@ ghost use Rattle.hanoi.specs.Reading.{
   startItem,
   propositionsItem,
   names,
-  named,
+  accNameItem,
   acceptanceItem,
   headerEnd,
+  fromPropositions,
+  fromStart,
   header,
 };
 ghost use Rattle.hanoi_header.specs.Items.{onward, onwardValue, checkedValue, PastValue};
-ghost use Rattle.hanoi_header.specs.Headers.{startStep, PastHeader, fromStart, fromPropositions};
+ghost use Rattle.hanoi_header.specs.Headers.{startStep, PastHeader};
 use tokens::Numeral;
 use tokens::Went;
 use tokens::name_at;
@@ -124,7 +126,7 @@ fn names(text: &[u8], at: usize, count: usize) -> Went
 // `acc-name: Buchi`, which may be left out.
 fn acc_name(text: &[u8], at: usize) -> Went
     requires { ⌜ at ≤ length (now text) ⌝ }
-    ensures meaning { λ r. ⌜ ((go : ℕ → Step) → named (now (text .entry)) at go ≡ onward r go) ⌝ }
+    ensures meaning { λ r. ⌜ ((go : ℕ → Step) → accNameItem (now (text .entry)) at go ≡ onward r go) ⌝ }
     ensures within { λ r. ⌜ Past (now (text .entry)) 0 r ⌝ }
 {
     let Went::Behind(next) = token(text, at, b"acc-name:") else {

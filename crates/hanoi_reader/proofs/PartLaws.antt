@@ -28,8 +28,8 @@ use Rattle.label_reader.specs.declared.Truth.the-variants.{Bad, On}
 use Rattle.label_reader.specs.Truths.{answerOf}
 use Rattle.label_reader.proofs.ReadTruths.{answer-on, answer-bad}
 use Rattle.hanoi.specs.Words.{END, State, leftBracket, rightBracket}
-use Rattle.hanoi.specs.Descriptions.{Part, declared, edge, Described, headed, with-part}
-use Rattle.hanoi.specs.Reading.{Step, over, next, refused, describes, outside, expect, expectNumber, check, isDeclared, acceptance, stateAt, edgeAt, edgeOf, endAt, partAt}
+use Rattle.hanoi.specs.Descriptions.{Part, declared, edge, Description, headed, extended}
+use Rattle.hanoi.specs.Reading.{Step, over, next, refused, describes, outside, expect, expectNumber, check, isDeclared, acceptance, declaration, stateAt, edgeAt, edgeOf, endAt, partAt}
 use Rattle.hanoi.specs.Meaning.{withLetters, withPart, withParts, automatonOf, PartWithin, WellFormed}
 use Rattle.hanoi.proofs.Described.{few-letters}
 use Rattle.hanoi.proofs.ReadSteps.{edge-first-step, edge-state-step, edge-again-step, declared-none, declared-state, declared-edge}
@@ -38,10 +38,10 @@ use Rattle.hanoi_header.specs.declared.Header.{Header}
 use Rattle.hanoi_header.specs.declared.Item.{Item}
 use Rattle.hanoi_header.specs.declared.Item.the-variants.{Refused as ItemRefused, Value}
 use Rattle.hanoi_reader.specs.declared.Progress.{Progress}
-use Rattle.hanoi_reader.specs.declared.Progress.the-variants.{Refused, Whole, Declared, Goes}
+use Rattle.hanoi_reader.specs.declared.Progress.the-variants.{Refused, Whole, Goes}
 use Rattle.hanoi_header.specs.Headers.{headedBy}
 use Rattle.hanoi_header.specs.Items.{onward, onwardValue}
-use Rattle.hanoi_reader.specs.Taking.{headOf, declaration, withMask, latestState, Held, Advanced, Taken}
+use Rattle.hanoi_reader.specs.Taking.{headOf, withMask, latestState, Held, Advanced, Taken}
 use Rattle.hanoi_header.proofs.ItemLaws.{token-read, value-read, value-refused, there, not-there}
 use Rattle.hanoi_header.proofs.HeaderLaws.{Checked, from-zero}
 use Rattle.hanoi_reader.proofs.LetterLaws.{letters-mask}
@@ -74,26 +74,26 @@ swapped x q p =
     (λ t. ⊎-elim (or-right (eqb p q) x) (λ e. or-left (eqb p q) x (same-flipped q p e)) (or-cases x (eqb q p) t))
     (λ t. ⊎-elim (λ e. or-right x (eqb q p) (same-flipped p q e)) (or-left x (eqb q p)) (or-cases (eqb p q) x t))
 
-module _ (s : List ℕ) (i q j : ℕ) (h : Header) (l : ℕ) (D : Described) (d : List ℕ) (small : q < maxStates) where
-  pub declared-again : (A : Automaton) → Held D h l d A → member d q ≡ true → Taken s i h l D (declaration s j q D) d A (Refused 17)
+module _ (s : List ℕ) (i q j : ℕ) (h : Header) (l : ℕ) (D : Description) (d : List ℕ) (small : q < maxStates) where
+  pub declared-again : (A : Automaton) → Held D h l d A → member d q ≡ true → Taken s i h D (declaration s j q D) d d A (Refused 17)
   unfolding Taken
   declared-again A H e =
-      (check-refused _ 17 _ (ap not (sym (H .declares q small) ∙ e)), H .automaton)
+      (check-refused _ 17 _ (ap not (sym (H .declares q small) ∙ e)), H .automaton, refl)
 
   -- undeclared: what the mark behind it comes to decides
   undeclared : (A : Automaton) → Held D h l d A → member d q ≡ false
-      → declaration s j q D ≡ acceptance s j (λ b k. next k (with-part (declared q b) D))
+      → declaration s j q D ≡ acceptance s j (λ b k. next k (extended (declared q b) D))
   undeclared A H e = check-read _ 17 _ (ap not (sym (H .declares q small) ∙ e))
 
   module _ (r : Item) (mark : (go : Bool → ℕ → Step) → acceptance s j go ≡ onwardValue r (λ v k. go (eqb v 1) k)) where
     pub declare-refused : (A : Automaton) → Held D h l d A → member d q ≡ false → (n : ℕ) → r ≡ ItemRefused n
-        → Taken s i h l D (declaration s j q D) d A (Refused n)
+        → Taken s i h D (declaration s j q D) d d A (Refused n)
     unfolding Taken
-    declare-refused A H e n f = (undeclared A H e ∙ mark _ ∙ value-refused r n f _, H .automaton)
+    declare-refused A H e n f = (undeclared A H e ∙ mark _ ∙ value-refused r n f _, H .automaton, refl)
 
     -- what is held with one state more
     held-state : (A C : Automaton) (b : Bool) → Held D h l d A → C ≡ withPart A (declared q b)
-        → Held (with-part (declared q b) D) h q (withMember d q) C
+        → Held (extended (declared q b) D) h q (withMember d q) C
     unfolding automatonOf withParts
     held-state A C b H e =
         record {
@@ -108,12 +108,12 @@ module _ (s : List ℕ) (i q j : ℕ) (h : Header) (l : ℕ) (D : Described) (d 
 
     declared-goes : (A C : Automaton) (v k : ℕ) (b : Bool) → Held D h l d A → member d q ≡ false → r ≡ Value v k → eqb v 1 ≡ b
         → C ≡ withPart A (declared q b) → i < k → k ≤ length s
-        → Taken s i h l D (declaration s j q D) (withMember d q) C (Declared q k)
+        → Taken s i h D (declaration s j q D) d (withMember d q) C (Goes q k)
     unfolding Taken
     declared-goes A C v k b H e f g c a w =
         record {
-          description = with-part (declared q b) D;
-          step = undeclared A H e ∙ mark _ ∙ value-read r v k f _ ∙ ap (λ (x : Bool). next k (with-part (declared q x) D)) g;
+          description = extended (declared q b) D;
+          step = undeclared A H e ∙ mark _ ∙ value-read r v k f _ ∙ ap (λ (x : Bool). next k (extended (declared q x) D)) g;
           held = held-state A C b H c;
           forward = a;
           within = w;
@@ -123,75 +123,75 @@ module _ (s : List ℕ) (i q j : ℕ) (h : Header) (l : ℕ) (D : Described) (d 
     module _ (u t : List ℕ) (H : Held D h l d (wholeOf (headOf h u) t)) (e : member d q ≡ false) (v k : ℕ) (f : r ≡ Value v k) (a : i < k) (w : k ≤ length s)
         (d' : List ℕ) (c : d' ≡ withMember d q) where
       pub declare-accepting : eqb v 1 ≡ true → (u' : List ℕ) → u' ≡ withMember u q
-          → Taken s i h l D (declaration s j q D) d' (wholeOf (headOf h u') t) (Declared q k)
+          → Taken s i h D (declaration s j q D) d d' (wholeOf (headOf h u') t) (Goes q k)
       unfolding withPart withAccepting
       declare-accepting g u' b =
-          subst (λ (x : List ℕ). Taken s i h l D (declaration s j q D) x (wholeOf (headOf h u') t) (Declared q k)) (sym c)
+          subst (λ (x : List ℕ). Taken s i h D (declaration s j q D) d x (wholeOf (headOf h u') t) (Goes q k)) (sym c)
           (declared-goes (wholeOf (headOf h u) t) _ v k true H e f g (ap (λ (x : List ℕ). wholeOf (headOf h x) t) b) a w)
 
-      pub declare-rejecting : eqb v 1 ≡ false → Taken s i h l D (declaration s j q D) d' (wholeOf (headOf h u) t) (Declared q k)
+      pub declare-rejecting : eqb v 1 ≡ false → Taken s i h D (declaration s j q D) d d' (wholeOf (headOf h u) t) (Goes q k)
       unfolding withPart
       declare-rejecting g =
-          subst (λ (x : List ℕ). Taken s i h l D (declaration s j q D) x (wholeOf (headOf h u) t) (Declared q k)) (sym c)
+          subst (λ (x : List ℕ). Taken s i h D (declaration s j q D) d x (wholeOf (headOf h u) t) (Goes q k)) (sym c)
           (declared-goes (wholeOf (headOf h u) t) _ v k false H e f g refl a w)
 
 -- a state's number is below the number of states exactly when it is below the header's
-in-states : (h : Header) (l : ℕ) (D : Described) (d : List ℕ) (A : Automaton) → Held D h l d A → (v : ℕ) → ltb v (D .states) ≡ (leb 0 v && ltb v (h .states))
+in-states : (h : Header) (l : ℕ) (D : Description) (d : List ℕ) (A : Automaton) → Held D h l d A → (v : ℕ) → ltb v (D .states) ≡ (leb 0 v && ltb v (h .states))
 in-states h l D d A H v = ap (ltb v) (H .states) ∙ from-zero v (ltb v (h .states))
 
-module _ (s : List ℕ) (i j : ℕ) (h : Header) (l : ℕ) (D : Described) (d : List ℕ) (A : Automaton) (H : Held D h l d A) (r : Item)
+module _ (s : List ℕ) (i j : ℕ) (h : Header) (l : ℕ) (D : Description) (d : List ℕ) (A : Automaton) (H : Held D h l d A) (r : Item)
     (number : Checked s (Behind j) 0 (h .states) 4 r) where
   by-number : stateAt s j D ≡ onwardValue r (λ q k. declaration s k q D)
   unfolding stateAt onward
   by-number = number (λ v. ltb v (D .states)) (in-states h l D d A H) (λ q k. declaration s k q D)
 
-  pub state-refused : (n : ℕ) → r ≡ ItemRefused n → Taken s i h l D (stateAt s j D) d A (Refused n)
+  pub state-refused : (n : ℕ) → r ≡ ItemRefused n → Taken s i h D (stateAt s j D) d d A (Refused n)
   unfolding Taken
-  state-refused n e = (by-number ∙ value-refused r n e _, H .automaton)
+  state-refused n e = (by-number ∙ value-refused r n e _, H .automaton, refl)
 
-  pub state-taken : (q k : ℕ) → r ≡ Value q k → (e : List ℕ) (C : Automaton) (p : Progress) → Taken s i h l D (declaration s k q D) e C p
-      → Taken s i h l D (stateAt s j D) e C p
-  state-taken q k f e C p = subst (λ (x : Step). Taken s i h l D x e C p) (sym (by-number ∙ value-read r q k f _))
+  pub state-taken : (q k : ℕ) → r ≡ Value q k → (e : List ℕ) (C : Automaton) (p : Progress) → Taken s i h D (declaration s k q D) d e C p
+      → Taken s i h D (stateAt s j D) d e C p
+  state-taken q k f e C p = subst (λ (x : Step). Taken s i h D x d e C p) (sym (by-number ∙ value-read r q k f _))
 
 -- Edges.
 
-module _ (s : List ℕ) (i j : ℕ) (h : Header) (q : ℕ) (D : Described) (d u t : List ℕ) (H : Held D h q d (wholeOf (headOf h u) t))
+module _ (s : List ℕ) (i j : ℕ) (h : Header) (q : ℕ) (D : Description) (d u t : List ℕ) (H : Held D h q d (wholeOf (headOf h u) t))
     (x : Truth) (label : x ≡ answerOf (labelAt s (h .propositions) j)) where
   same-label : labelAt s (D .propositions) j ≡ labelAt s (h .propositions) j
   same-label = ap (λ (k : ℕ). labelAt s k j) (H .propositions)
 
   target : Label → ℕ → Step
-  target L k = expect rightBracket s k (λ k. expectNumber s k (λ r l. check (ltb r (D .states)) 4 (next l (with-part (edge q L r) D))))
+  target L k = expect rightBracket s k (λ k. expectNumber s k (λ r l. check (ltb r (D .states)) 4 (next l (extended (edge q L r) D))))
 
   by-label : (y : Found) → labelAt s (D .propositions) j ≡ y → edgeAt s j q D ≡ elim y [ absent ↦ outside | found L k ↦ target L k ]
   unfolding edgeAt target
   by-label y e = ap (λ (z : Found). elim z [ absent ↦ outside | found L k ↦ target L k ]) e
 
-  pub edge-unlabelled : x ≡ Bad → Taken s i h q D (edgeAt s j q D) d (wholeOf (headOf h u) t) (Refused 17)
+  pub edge-unlabelled : x ≡ Bad → Taken s i h D (edgeAt s j q D) d d (wholeOf (headOf h u) t) (Refused 17)
   unfolding Taken
-  edge-unlabelled e = (by-label absent (same-label ∙ answer-bad _ (sym e ∙ label)), H .automaton)
+  edge-unlabelled e = (by-label absent (same-label ∙ answer-bad _ (sym e ∙ label)), H .automaton, refl)
 
   module _ (m k : ℕ) (e : x ≡ On m k) (w : Went) (bracket : w ≡ tokenAt rightBracket s k) (r : Item) (number : Checked s w 0 (h .states) 4 r) where
-    by-target : (L : Label) → labelAt s (D .propositions) j ≡ found L k → edgeAt s j q D ≡ onwardValue r (λ p l. next l (with-part (edge q L p) D))
+    by-target : (L : Label) → labelAt s (D .propositions) j ≡ found L k → edgeAt s j q D ≡ onwardValue r (λ p l. next l (extended (edge q L p) D))
     unfolding target
     by-target L f =
         by-label (found L k) f ∙ token-read rightBracket s k w bracket _
-        ∙ number (λ v. ltb v (D .states)) (in-states h q D d (wholeOf (headOf h u) t) H) (λ p l. next l (with-part (edge q L p) D))
+        ∙ number (λ v. ltb v (D .states)) (in-states h q D d (wholeOf (headOf h u) t) H) (λ p l. next l (extended (edge q L p) D))
 
-    pub edge-refused : (n : ℕ) → r ≡ ItemRefused n → Taken s i h q D (edgeAt s j q D) d (wholeOf (headOf h u) t) (Refused n)
+    pub edge-refused : (n : ℕ) → r ≡ ItemRefused n → Taken s i h D (edgeAt s j q D) d d (wholeOf (headOf h u) t) (Refused n)
     unfolding Taken
     edge-refused n f =
         let y = answer-on (labelAt s (h .propositions) j) m k (sym e ∙ label) in
-        (by-target (y .label) (same-label ∙ y .read) ∙ value-refused r n f _, H .automaton)
+        (by-target (y .label) (same-label ∙ y .read) ∙ value-refused r n f _, H .automaton, refl)
 
     pub edge-taken : (p l : ℕ) → r ≡ Value p l → h .propositions ≤ 4 → i < l → l ≤ length s → (n : ℕ) → n ≡ 2 ^ (h .propositions) → (t' : List ℕ)
-        → t' ≡ withMask t q m p n 0 → Taken s i h q D (edgeAt s j q D) d (wholeOf (headOf h u) t') (Goes l)
+        → t' ≡ withMask t q m p n 0 → Taken s i h D (edgeAt s j q D) d d (wholeOf (headOf h u) t') (Goes q l)
     unfolding Taken automatonOf withParts withPart
     edge-taken p l f few a b n g t' c =
         let y = answer-on (labelAt s (h .propositions) j) m k (sym e ∙ label) in
         let under = below-more (h .propositions) 4 (y .label) (label-below s (h .propositions) j (y .label) k (y .read)) few in
         record {
-          description = with-part (edge q (y .label) p) D;
+          description = extended (edge q (y .label) p) D;
           step = by-target (y .label) (same-label ∙ y .read) ∙ value-read r p l f _;
           held =
               record {
@@ -211,16 +211,16 @@ module _ (s : List ℕ) (i j : ℕ) (h : Header) (q : ℕ) (D : Described) (d u 
 
 -- What stands at a place.
 
-module _ (s : List ℕ) (i : ℕ) (h : Header) (l : ℕ) (D : Described) (d : List ℕ) (A : Automaton) (H : Held D h l d A) (x : Went) (at-end : x ≡ tokenAt END s i) where
-  pub ended-part : (j : ℕ) → x ≡ Behind j → eqb (skip s j) (length s) ≡ true → Taken s i h l D (partAt s i D) d A Whole
+module _ (s : List ℕ) (i : ℕ) (h : Header) (l : ℕ) (D : Description) (d : List ℕ) (A : Automaton) (H : Held D h l d A) (x : Went) (at-end : x ≡ tokenAt END s i) where
+  pub ended-part : (j : ℕ) → x ≡ Behind j → eqb (skip s j) (length s) ≡ true → Taken s i h D (partAt s i D) d d A Whole
   unfolding Taken partAt endAt
   ended-part j e f =
-      (there END s i x at-end (λ j. endAt s j D) _ j e ∙ ap (λ (b : Bool). elim b [ true ↦ over (describes D) | false ↦ outside ]) f, H .automaton)
+      (there END s i x at-end (λ j. endAt s j D) _ j e ∙ ap (λ (b : Bool). elim b [ true ↦ over (describes D) | false ↦ outside ]) f, H .automaton, refl)
 
-  pub unended-part : (j : ℕ) → x ≡ Behind j → eqb (skip s j) (length s) ≡ false → Taken s i h l D (partAt s i D) d A (Refused 17)
+  pub unended-part : (j : ℕ) → x ≡ Behind j → eqb (skip s j) (length s) ≡ false → Taken s i h D (partAt s i D) d d A (Refused 17)
   unfolding Taken partAt endAt
   unended-part j e f =
-      (there END s i x at-end (λ j. endAt s j D) _ j e ∙ ap (λ (b : Bool). elim b [ true ↦ over (describes D) | false ↦ outside ]) f, H .automaton)
+      (there END s i x at-end (λ j. endAt s j D) _ j e ∙ ap (λ (b : Bool). elim b [ true ↦ over (describes D) | false ↦ outside ]) f, H .automaton, refl)
 
   module _ (e : x ≡ Nowhere) (y : Went) (at-state : y ≡ tokenAt State s i) where
     pub state-part : (j : ℕ) → y ≡ Behind j → partAt s i D ≡ stateAt s j D
@@ -234,16 +234,17 @@ module _ (s : List ℕ) (i : ℕ) (h : Header) (l : ℕ) (D : Described) (d : Li
           not-there END s i x at-end (λ j. endAt s j D) _ e ∙ not-there State s i y at-state (λ j. stateAt s j D) _ f
           ∙ there leftBracket s i z at-edge (λ j. edgeOf s j (D .parts) D) outside j g
 
-      pub no-part : z ≡ Nowhere → Taken s i h l D (partAt s i D) d A (Refused 17)
+      pub no-part : z ≡ Nowhere → Taken s i h D (partAt s i D) d d A (Refused 17)
       unfolding Taken partAt
       no-part g = (
         not-there END s i x at-end (λ j. endAt s j D) _ e ∙ not-there State s i y at-state (λ j. stateAt s j D) _ f
             ∙ not-there leftBracket s i z at-edge (λ j. edgeOf s j (D .parts) D) outside g,
         H .automaton,
+        refl,
       )
 
 -- the state that an edge belongs to: there is one exactly when its number is below 32
-pub latest-none : (s : List ℕ) (i l : ℕ) (D : Described) → WellFormed D → latestState (D .parts) ≡ l → maxStates ≤ l → edgeOf s i (D .parts) D ≡ outside
+pub latest-none : (s : List ℕ) (i l : ℕ) (D : Description) → WellFormed D → latestState (D .parts) ≡ l → maxStates ≤ l → edgeOf s i (D .parts) D ≡ outside
 latest-none s i l D f e h = by (D .parts) e (f .within)
   where
     by : (xs : List Part) → latestState xs ≡ l → ((x : Part) → List·Memᴰ x xs → PartWithin (D .states) (D .propositions) x) → edgeOf s i xs D ≡ outside
@@ -251,7 +252,7 @@ latest-none s i l D f e h = by (D .parts) e (f .within)
     by (declared q b ∷ xs) g w = absurd (omega (arith, g, h, f .few-states, w (declared q b) (List·Memᴰ·head refl)))
     by (edge q L r ∷ xs) g w = absurd (omega (arith, g, h, f .few-states, w (edge q L r) (List·Memᴰ·head refl) .0))
 
-pub latest-some : (s : List ℕ) (i l : ℕ) (D : Described) → latestState (D .parts) ≡ l → l < maxStates → edgeOf s i (D .parts) D ≡ edgeAt s i l D
+pub latest-some : (s : List ℕ) (i l : ℕ) (D : Description) → latestState (D .parts) ≡ l → l < maxStates → edgeOf s i (D .parts) D ≡ edgeAt s i l D
 latest-some s i l D e h = by (D .parts) e
   where
     by : (xs : List Part) → latestState xs ≡ l → edgeOf s i xs D ≡ edgeAt s i l D
@@ -259,6 +260,6 @@ latest-some s i l D e h = by (D .parts) e
     by (declared q b ∷ xs) g = edge-state-step s i D q b xs ∙ ap (λ (n : ℕ). edgeAt s i n D) g
     by (edge q L r ∷ xs) g = edge-again-step s i D q L r xs ∙ ap (λ (n : ℕ). edgeAt s i n D) g
 
-pub taken-as : (s : List ℕ) (i : ℕ) (h : Header) (l : ℕ) (D : Described) (x y : Step) (d : List ℕ) (A : Automaton) (p : Progress) → x ≡ y
-    → Taken s i h l D y d A p → Taken s i h l D x d A p
-taken-as s i h l D x y d A p e = subst (λ (z : Step). Taken s i h l D z d A p) (sym e)
+pub taken-as : (s : List ℕ) (i : ℕ) (h : Header) (D : Description) (x y : Step) (e d : List ℕ) (A : Automaton) (p : Progress) → x ≡ y
+    → Taken s i h D y e d A p → Taken s i h D x e d A p
+taken-as s i h D x y e d A p q = subst (λ (z : Step). Taken s i h D z e d A p) (sym q)

@@ -12,7 +12,7 @@ use Rattle.automaton.specs.Automata.{maxStates, wholeOf, bare, InRange}
 use Rattle.fixed_form.specs.declared.WriteAnswer.{WriteAnswer}
 use Rattle.fixed_form.specs.declared.WriteAnswer.the-variants.{Refused as Refused-text}
 use Rattle.fixed_form.specs.Write.{Write, writing}
-use Rattle.hanoi.specs.Descriptions.{Described, headed}
+use Rattle.hanoi.specs.Descriptions.{Description, headed}
 use Rattle.hanoi.specs.Reading.{Read, refused, describes, Step, over, next, header, partAt, body, readHanoi}
 use Rattle.hanoi.specs.Meaning.{withParts, automatonOf, WellFormed}
 use Rattle.hanoi.specs.Hanoi.{hanoiOf}
@@ -27,7 +27,7 @@ use Rattle.hanoi_header.specs.Headers.{headedBy, startStep, PastHeader}
 use Rattle.hanoi_header.specs.declared.Start.{Start}
 use Rattle.hanoi_header.specs.declared.Start.the-variants.{NoHeader, Begins}
 use Rattle.hanoi_reader.specs.declared.Progress.{Progress}
-use Rattle.hanoi_reader.specs.declared.Progress.the-variants.{Refused, Whole, Declared, Goes}
+use Rattle.hanoi_reader.specs.declared.Progress.the-variants.{Refused, Whole, Goes}
 use Rattle.hanoi_reader.specs.Taking.{headOf, Headed, Held, Advanced, Taken, describedPast, describedBefore, ReadTo}
 use Rattle.hanoi_reader.proofs.PartLaws.{held-starts}
 
@@ -35,7 +35,7 @@ use Rattle.hanoi_reader.proofs.PartLaws.{held-starts}
 
 pub record Going (s : List ℕ) (h : Header) (i l : ℕ) (d : List ℕ) (A : Automaton) : Type 0 where
   pub fuel : ℕ
-  pub description : Described
+  pub description : Description
   pub well-formed : WellFormed description
   pub held : Held description h l d A
   pub enough : length s < i + fuel
@@ -43,12 +43,12 @@ pub record Going (s : List ℕ) (h : Header) (i l : ℕ) (d : List ℕ) (A : Aut
   pub left : body fuel s (next i description) ≡ readHanoi s
   pub past : describedPast fuel s (next i description) description ≡ describedBefore s
 
-past-over : (n : ℕ) (s : List ℕ) (r : Read) (D : Described) → describedPast n s (over r) D ≡ D
+past-over : (n : ℕ) (s : List ℕ) (r : Read) (D : Description) → describedPast n s (over r) D ≡ D
 unfolding describedPast
 past-over zero s r D = refl
 past-over (suc n) s r D = refl
 
-past-next : (n : ℕ) (s : List ℕ) (i : ℕ) (E D C : Described) → describedPast n s (next i E) D ≡ describedPast n s (next i E) C
+past-next : (n : ℕ) (s : List ℕ) (i : ℕ) (E D C : Description) → describedPast n s (next i E) D ≡ describedPast n s (next i E) C
 unfolding describedPast
 past-next zero s i E D C = refl
 past-next (suc n) s i E D C = refl
@@ -108,36 +108,29 @@ module _ (s : List ℕ) (h : Header) (i l : ℕ) (d : List ℕ) (A : Automaton) 
         sym (past-over (t .rest) s r (g .description)) ∙ ap (λ (x : Step). describedPast (t .rest) s x (g .description)) (sym e) ∙ t .past,
       )
 
-  pub going-stops : (n : ℕ) (e : List ℕ) (B : Automaton) (p : Progress) → Taken s i h l (g .description) (partAt s i (g .description)) e B p → p ≡ Refused n
+  pub going-stops : (n : ℕ) (e : List ℕ) (B : Automaton) (p : Progress) → Taken s i h (g .description) (partAt s i (g .description)) d e B p → p ≡ Refused n
       → ReadTo s (readHanoi s) n B
   unfolding Taken ReadTo
   going-stops n e B p t f =
-      let u : (partAt s i (g .description) ≡ over (refused n)) × (B ≡ automatonOf (g .description)) =
-      subst (Taken s i h l (g .description) (partAt s i (g .description)) e B) f t in
+      let u : (partAt s i (g .description) ≡ over (refused n)) × (B ≡ automatonOf (g .description)) × (e ≡ d) =
+      subst (Taken s i h (g .description) (partAt s i (g .description)) d e B) f t in
       let v = over-reads (refused n) (u .0) in
       subst (λ (r : Read). ReadTo s r n B) (v .0) (refl, u .1 ∙ ap automatonOf (v .1))
 
-  pub going-ends : (e : List ℕ) (B : Automaton) (p : Progress) → Taken s i h l (g .description) (partAt s i (g .description)) e B p → p ≡ Whole
+  pub going-ends : (e : List ℕ) (B : Automaton) (p : Progress) → Taken s i h (g .description) (partAt s i (g .description)) d e B p → p ≡ Whole
       → ReadTo s (readHanoi s) 0 B
   unfolding Taken ReadTo
   going-ends e B p t f =
-      let u : (partAt s i (g .description) ≡ over (describes (g .description))) × (B ≡ automatonOf (g .description)) =
-      subst (Taken s i h l (g .description) (partAt s i (g .description)) e B) f t in
+      let u : (partAt s i (g .description) ≡ over (describes (g .description))) × (B ≡ automatonOf (g .description)) × (e ≡ d) =
+      subst (Taken s i h (g .description) (partAt s i (g .description)) d e B) f t in
       subst (λ (r : Read). ReadTo s r 0 B) (over-reads (describes (g .description)) (u .0) .0) (refl, u .1)
 
-  pub going-declared : (q j : ℕ) (e : List ℕ) (B : Automaton) (p : Progress) → Taken s i h l (g .description) (partAt s i (g .description)) e B p
-      → p ≡ Declared q j → Going s h j q e B × (i < j) × (j ≤ length s)
+  pub going-past : (m j : ℕ) (e : List ℕ) (B : Automaton) (p : Progress) → Taken s i h (g .description) (partAt s i (g .description)) d e B p
+      → p ≡ Goes m j → Going s h j m e B × (i < j) × (j ≤ length s)
   unfolding Taken
-  going-declared q j e B p t f =
-      let a : Advanced s i h q (partAt s i (g .description)) j e B = subst (Taken s i h l (g .description) (partAt s i (g .description)) e B) f t in
-      (going-on q j e B a, a .forward, a .within)
-
-  pub going-past : (j : ℕ) (e : List ℕ) (B : Automaton) (p : Progress) → Taken s i h l (g .description) (partAt s i (g .description)) e B p
-      → p ≡ Goes j → Going s h j l e B × (i < j) × (j ≤ length s)
-  unfolding Taken
-  going-past j e B p t f =
-      let a : Advanced s i h l (partAt s i (g .description)) j e B = subst (Taken s i h l (g .description) (partAt s i (g .description)) e B) f t in
-      (going-on l j e B a, a .forward, a .within)
+  going-past m j e B p t f =
+      let a : Advanced s i h m (partAt s i (g .description)) j e B = subst (Taken s i h (g .description) (partAt s i (g .description)) d e B) f t in
+      (going-on m j e B a, a .forward, a .within)
 
 -- The answer of a reading that is over.
 
@@ -179,7 +172,7 @@ module _ (s : List ℕ) (m : ℕ) (A : Automaton) (h : ReadTo s (readHanoi s) m 
       by (describes D) e t = absurd (z (t .0))
 
   pub record Described-as : Type 0 where
-    pub description : Described
+    pub description : Description
     pub read : readHanoi s ≡ describes description
     pub automaton : A ≡ automatonOf description
 

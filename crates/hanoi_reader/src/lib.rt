@@ -17,12 +17,11 @@ use hanoi_header::Start;
 
 mod parts;
 
-// What stands at a place of the body: a fault, the end, a state with the place behind it, or an edge, of which only that place is told.
+// What stands at a place of the body: a fault, the end, or a state or edge, with the state that the next edge belongs to and the place behind.
 pub enum Progress {
     Refused(usize),
     Whole,
-    Declared(usize, usize),
-    Goes(usize),
+    Goes(usize, usize),
 }
 
 // The number of letters: each is a set of propositions.
@@ -72,11 +71,10 @@ fn read_body(text: &[u8], body: usize, header: Header, transitions: &mut [u8; 20
         ) {
             Progress::Refused(number) => return ended(number, header, accepting),
             Progress::Whole => return ended(0, header, accepting),
-            Progress::Declared(q, next) => {
+            Progress::Goes(q, next) => {
                 latest = q;
                 at = next;
             }
-            Progress::Goes(next) => at = next,
         }
     }
 }

@@ -6,14 +6,14 @@ ghost use Prim.Native.Nat.{ℕ, _≤_, _<_};
 ghost use lib.Dec.{eqb};
 ghost use lib.ListN.{length};
 ghost use Rattle.automaton.specs.Automata.{wholeOf};
-ghost use Rattle.hanoi.specs.Descriptions.{Described};
+ghost use Rattle.hanoi.specs.Descriptions.{Description};
 ghost use Rattle.tokens.specs.Tokens.{skip};
-ghost use Rattle.hanoi.specs.Reading.{Step, acceptance, stateAt, edgeAt, partAt};
+ghost use Rattle.hanoi.specs.Reading.{Step, acceptance, declaration, stateAt, edgeAt, partAt};
 ghost use Rattle.hanoi.specs.Meaning.{WellFormed};
 ghost use Rattle.hanoi_header.specs.declared.Header.{Header};
 ghost use Rattle.hanoi_header.specs.Headers.{InRanges};
 ghost use Rattle.hanoi_header.specs.Items.{onwardValue, PastValue};
-ghost use Rattle.hanoi_reader.specs.Taking.{headOf, declaration, withLetter, withMask, Held, Taken};
+ghost use Rattle.hanoi_reader.specs.Taking.{headOf, withLetter, withMask, Held, Holds, Taken};
 use crate::Progress;
 use automaton::accepts_in;
 use automaton::add_member;
@@ -64,9 +64,9 @@ fn declare(
 ) -> Progress
     requires { ⌜ (at ≤ length (now text)) × (q < 32) ⌝ }
     ensures { λ p. ⌜
-        ((h : Header) (l : ℕ) (t : List ℕ) (D : Described) (i : ℕ) → i < at
+        ((h : Header) (l : ℕ) (t : List ℕ) (D : Description) (i : ℕ) → i < at
         → Held D h l (now (declared .entry)) (wholeOf (headOf h (now (accepting .entry))) t)
-        → Taken (now (text .entry)) i h l D (declaration (now (text .entry)) at q D) (now (declared .exit))
+        → Taken (now (text .entry)) i h D (declaration (now (text .entry)) at q D) (now (declared .entry)) (now (declared .exit))
         (wholeOf (headOf h (now (accepting .exit))) t) p)
         ⌝ }
 {
@@ -80,7 +80,7 @@ fn declare(
             if mark == 1 {
                 add_member(accepting, q);
             }
-            Progress::Declared(q, next)
+            Progress::Goes(q, next)
         }
     }
 }
@@ -95,9 +95,9 @@ fn take_state(
 ) -> Progress
     requires { ⌜ (at ≤ length (now text)) × InRanges header ⌝ }
     ensures { λ p. ⌜
-        ((l : ℕ) (t : List ℕ) (D : Described) (i : ℕ) → i < at
+        ((l : ℕ) (t : List ℕ) (D : Description) (i : ℕ) → i < at
         → Held D header l (now (declared .entry)) (wholeOf (headOf header (now (accepting .entry))) t)
-        → Taken (now (text .entry)) i header l D (stateAt (now (text .entry)) at D) (now (declared .exit))
+        → Taken (now (text .entry)) i header D (stateAt (now (text .entry)) at D) (now (declared .entry)) (now (declared .exit))
         (wholeOf (headOf header (now (accepting .exit))) t) p)
         ⌝ }
 {
@@ -139,9 +139,9 @@ fn take_edge(
 ) -> Progress
     requires { ⌜ (at ≤ length (now text)) × InRanges header × (q < 32) ⌝ }
     ensures { λ p. ⌜
-        ((d s : List ℕ) (D : Described) (i : ℕ) → i < at
+        ((d s : List ℕ) (D : Description) (i : ℕ) → i < at
         → Held D header q d (wholeOf (headOf header s) (now (transitions .entry)))
-        → Taken (now (text .entry)) i header q D (edgeAt (now (text .entry)) at q D) d
+        → Taken (now (text .entry)) i header D (edgeAt (now (text .entry)) at q D) d d
         (wholeOf (headOf header s) (now (transitions .exit))) p)
         ⌝ }
 {
@@ -159,7 +159,7 @@ fn take_edge(
                 r,
                 crate::letters_of(header.propositions),
             );
-            Progress::Goes(next)
+            Progress::Goes(q, next)
         }
     }
 }
@@ -174,11 +174,15 @@ pub fn take_part(
     accepting: &mut [u8; 4],
     transitions: &mut [u8; 2048],
 ) -> Progress
-    requires { ⌜ (at ≤ length (now text)) × InRanges header ⌝ }
+    requires { ⌜
+        (at ≤ length (now text))
+        × InRanges header
+        × Holds header latest (now declared) (wholeOf (headOf header (now accepting)) (now transitions))
+        ⌝ }
     ensures { λ p. ⌜
-        ((D : Described) → WellFormed D
+        ((D : Description) → WellFormed D
         → Held D header latest (now (declared .entry)) (wholeOf (headOf header (now (accepting .entry))) (now (transitions .entry)))
-        → Taken (now (text .entry)) at header latest D (partAt (now (text .entry)) at D) (now (declared .exit))
+        → Taken (now (text .entry)) at header D (partAt (now (text .entry)) at D) (now (declared .entry)) (now (declared .exit))
         (wholeOf (headOf header (now (accepting .exit))) (now (transitions .exit))) p)
         ⌝ }
 {

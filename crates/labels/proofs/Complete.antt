@@ -14,8 +14,8 @@ use Rattle.tokens.specs.Tokens.{byteAt, skip, digit}
 use Rattle.tokens.specs.Lexical.{IsByte, NoByte, IsNumber, is-number}
 use Rattle.tokens.proofs.Runs.{white-run, skip-end, byte-past}
 use Rattle.tokens.proofs.LexicalLaws.{and-left, and-right, number-lexical, byte-stands, byte-behind, no-byte-iff}
-use Rattle.labels.specs.Labels.{Label, always, never, proposition, both, either}
-use Rattle.labels.specs.LabelReading.{maxDepth, Found, absent, found, known, propositionOf, atomAt, negated, closing, closed, more, chain, conjunction, disjunction, operandAt, labelAt}
+use Rattle.labels.specs.Labels.{maxDepth, Label, always, never, proposition, both, either}
+use Rattle.labels.specs.LabelReading.{Found, absent, found, known, propositionOf, atomAt, negated, closing, closed, more, chain, conjunction, disjunction, operandAt, labelAt}
 use Rattle.labels.specs.LabelGrammar.{IsOperand, t-word, f-word, proposition-number, bang, parenthesis, IsConjunction, operand, and, IsDisjunction, conjunct, or, IsLabel}
 use Rattle.labels.proofs.LabelSteps.{operand-by, operand-atom, atom-t, atom-f, atom-other, number-skip}
 use Rattle.labels.proofs.Sound.{operand-forward, conjunction-forward, byte-forward, operand-sound, disjunction-sound}

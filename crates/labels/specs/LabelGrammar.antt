@@ -9,8 +9,7 @@
 use mathlib.Core.List.{List}
 use Prim.Native.Nat.{ℕ, suc, _<_}
 use Rattle.tokens.specs.Lexical.{IsByte, NoByte, IsNumber}
-use Rattle.labels.specs.Labels.{Label, always, never, proposition, negation, both, either}
-use Rattle.labels.specs.LabelReading.{maxDepth}
+use Rattle.labels.specs.Labels.{maxDepth, Label, always, never, proposition, negation, both, either}
 
 mutual
   pub data IsOperand (s : List ℕ) (k : ℕ) : ℕ → ℕ → Label → ℕ → Type 0 where

@@ -7,18 +7,14 @@
 --   disjunction s f i    conjunctions joined by `|`
 --   labelAt s k i     the label at place i
 -- The bytes are 21 `!`, 26 `&`, 28 `(`, 29 `)`, 66 f, 74 t and 7C `|`.
--- Shown by `label-grammar`: the reader reads the labels of `LabelGrammar`, and no others. Assumes nothing.
+-- Shown by `label-grammar`: the reader reads the labels of `LabelGrammar`, as far as they go (no `|` follows), and no others. Assumes nothing.
 use mathlib.Core.Bool.{Bool, true, false}
 use mathlib.Core.List.{List}
 use Prim.Native.Nat.{ℕ, zero, suc, _+_}
 use lib.Dec.{eqb, ltb}
 use lib.ListN.{length}
 use Rattle.tokens.specs.Tokens.{byteAt, skip, Number, none, number, numberAt}
-use Rattle.labels.specs.Labels.{Label, always, never, proposition, negation, both, either}
-
--- the most `!` and parentheses around a place
-abbrev pub maxDepth : ℕ
-maxDepth = 64
+use Rattle.labels.specs.Labels.{maxDepth, Label, always, never, proposition, negation, both, either}
 
 pub data Found : Type 0 where
   absent : Found

@@ -1,4 +1,5 @@
 -- Labels of Hanoi edges and what they say (02, S-2).
+--   maxDepth       the most `!` and pairs of parentheses around a place of a label, counted together
 --   Label          a label as a syntax tree
 --   truth L a      the letter number a makes the label L true: proposition 0 is its lowest bit
 --   Below k L      each proposition of L is below k
@@ -8,6 +9,10 @@ use mathlib.Core.Bool.{Bool, true, false, _&&_, _||_, not}
 use Prim.Native.Nat.{ℕ, zero, suc, _-_, _<_}
 use lib.Bits.{bitAnd, bitOr}
 use Rattle.automaton.specs.Sets.{bit}
+
+-- the most `!` and parentheses around a place
+abbrev pub maxDepth : ℕ
+maxDepth = 64
 
 pub data Label : Type 0 where
   always : Label

@@ -11,8 +11,8 @@ use lib.Seq.{drop-cons}
 use borrow.Author.Tests.{leb-true}
 use Rattle.tokens.specs.declared.Numeral.{Numeral}
 use Rattle.tokens.specs.declared.Numeral.the-variants.{Value}
-use Rattle.tokens.specs.Tokens.{digit, digits, value}
-use Rattle.tokens.specs.Places.{capped, digitsAt}
+use Rattle.tokens.specs.Tokens.{digitsAt, digit, digits, value}
+use Rattle.tokens.specs.Places.{capped}
 
 pub digit-low : (b : ℕ) → digit b ≡ true → 0x30 ≤ b
 digit-low b e = leb-true 0x30 b (first (leb 0x30 b) (leb b 0x39) e)

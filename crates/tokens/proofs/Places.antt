@@ -10,8 +10,8 @@ use Rattle.tokens.specs.declared.Went.{Went}
 use Rattle.tokens.specs.declared.Went.the-variants.{Nowhere, Behind}
 use Rattle.tokens.specs.declared.Numeral.{Numeral}
 use Rattle.tokens.specs.declared.Numeral.the-variants.{Missing, Value}
-use Rattle.tokens.specs.Tokens.{byteAt, skip, touches, startsWith, stands, behind, digit, digits, value, none, number, numberAt, nameBytes}
-use Rattle.tokens.specs.Places.{tokenAt, goesOn, nameFrom, nameAt, capped, digitsAt, Past, PastNumber}
+use Rattle.tokens.specs.Tokens.{digitsAt, byteAt, skip, touches, startsWith, stands, behind, digit, digits, value, none, number, numberAt, nameBytes}
+use Rattle.tokens.specs.Places.{tokenAt, goesOn, nameFrom, nameAt, capped, Past, PastNumber}
 use Rattle.tokens.proofs.Runs.{digits-on}
 
 -- Where the reading goes on.

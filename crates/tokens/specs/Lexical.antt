@@ -6,14 +6,14 @@
 --   IsNumber s i v j   white space, and then the number v up to place j: all digits there are, no leading zero
 --   IsName s i j       white space, and then a quoted name up to place j
 --   NoToken, NoByte, NoNumber   none stands there
--- Numbers, and the letters of labels, stand behind a mark or a colon only, so that nothing can touch them. Shown by `token-lexical`, `byte-lexical`,
+-- `IsByte` and `IsNumber` have no rule about touching: in the grammars of labels and files they stand behind a colon or a mark only. Shown by `token-lexical`, `byte-lexical`,
 -- `number-lexical` and `name-lexical`. Assumes nothing.
 use mathlib.Core.Path.{_≡_}
 use mathlib.Core.Bool.{Bool, true, false}
 use mathlib.Core.List.{List, [], _∷_}
 use Prim.Native.Nat.{ℕ, _+_, _<_}
 use lib.ListN.{length, getD, drop}
-use Rattle.tokens.specs.Tokens.{white, alphanumeric, digit, value, nameByte}
+use Rattle.tokens.specs.Tokens.{white, byteBefore, alphanumeric, digit, value, nameByte}
 
 pub data Run (p : ℕ → Bool) (s : List ℕ) : ℕ → ℕ → Type 0 where
   run-ends : {i j : ℕ} → p (getD s i 0) ≡ false → i ≡ j → Run p s i j
@@ -23,10 +23,9 @@ pub data BytesAt (s : List ℕ) : List ℕ → ℕ → Type 0 where
   no-byte : {i : ℕ} → BytesAt s [] i
   byte : {b : ℕ} {w : List ℕ} {i : ℕ} → i < length s → getD s i 0 ≡ b → BytesAt s w (i + 1) → BytesAt s (b ∷ w) i
 
--- before the first byte stands white space
 pub data IsToken (w s : List ℕ) (i j : ℕ) : Type 0 where
   token : {a : ℕ} → Run (λ b. white b) s i a → BytesAt s w a
-      → ((alphanumeric (getD (0x20 ∷ s) a 0) ≡ true) × (alphanumeric (getD s a 0) ≡ true) → ⊥) → j ≡ a + length w → IsToken w s i j
+      → ((alphanumeric (byteBefore s a) ≡ true) × (alphanumeric (getD s a 0) ≡ true) → ⊥) → j ≡ a + length w → IsToken w s i j
 
 pub data IsByte (b : ℕ) (s : List ℕ) (i j : ℕ) : Type 0 where
   is-byte : {a : ℕ} → Run (λ c. white c) s i a → getD s a 0 ≡ b → j ≡ a + 1 → IsByte b s i j

@@ -4,7 +4,6 @@
 --   goesOn x f       what follows x: nowhere stays nowhere
 --   nameAt s i       nowhere, or behind the quoted name at place i
 --   capped n         a number as the code holds it
---   digitsAt s j     the digits from place j on, whatever the first is
 --   Past s i x       where x goes on is at place i or later, and in the text s or at its end; PastNumber likewise
 -- Assumes nothing.
 use mathlib.Core.Bool.{true, false}
@@ -16,7 +15,7 @@ use Rattle.tokens.specs.declared.Went.{Went}
 use Rattle.tokens.specs.declared.Went.the-variants.{Nowhere, Behind}
 use Rattle.tokens.specs.declared.Numeral.{Numeral}
 use Rattle.tokens.specs.declared.Numeral.the-variants.{Missing, Value}
-use Rattle.tokens.specs.Tokens.{byteAt, stands, behind, Number, none, number, digits, value, nameBytes}
+use Rattle.tokens.specs.Tokens.{byteAt, stands, behind, Number, none, number, nameBytes}
 
 unfoldable pub tokenAt : List ℕ → List ℕ → ℕ → Went
 tokenAt w s i = elim (stands w s i) [ true ↦ Behind (behind w s i) | false ↦ Nowhere ]
@@ -36,9 +35,6 @@ nameAt s i = goesOn (tokenAt (0x22 ∷ []) s i) (nameFrom s)
 abbrev pub capped : Number → Numeral
 capped none = Missing
 capped (number v j) = Value (min v 1000) j
-
-abbrev pub digitsAt : List ℕ → ℕ → Number
-digitsAt s j = number (value 0 (drop j s)) (j + digits (drop j s))
 
 abbrev pub Past : List ℕ → ℕ → Went → Type 0
 Past s i Nowhere = Unit {0}

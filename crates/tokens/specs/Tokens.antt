@@ -1,7 +1,7 @@
 -- The tokens of a Hanoi text (02, S-2), computed at a place of it. A text is a list of bytes, and a place the number of bytes before it. White space is
 -- passed before every token, and a token that begins with a letter or digit does not stand right behind one.
 --   white, digit, alphanumeric, nameByte   the kinds of bytes: white space, digits, letters and digits, what a quoted name may hold
---   byteAt s j       the byte at place j
+--   byteAt s j       the byte at place j; byteBefore s j the one before it
 --   skip s i         the first place from i on that holds no white space
 --   touches s j      the bytes at place j and before it are both letters or digits
 --   stands w s i     past white space from place i on stands the token with the bytes w
@@ -41,9 +41,12 @@ whites (b ∷ s) = elim (white b) [ true ↦ suc (whites s) | false ↦ 0 ]
 unfoldable pub skip : List ℕ → ℕ → ℕ
 skip s i = i + whites (drop i s)
 
--- before the first byte stands white space
+-- a blank counts as standing before the first byte
+abbrev pub byteBefore : List ℕ → ℕ → ℕ
+byteBefore s j = getD (0x20 ∷ s) j 0
+
 abbrev pub touches : List ℕ → ℕ → Bool
-touches s j = alphanumeric (getD (0x20 ∷ s) j 0) && alphanumeric (byteAt s j)
+touches s j = alphanumeric (byteBefore s j) && alphanumeric (byteAt s j)
 
 unfoldable pub startsWith : List ℕ → List ℕ → Bool
 startsWith [] s = true
@@ -71,13 +74,17 @@ unfoldable pub value : ℕ → List ℕ → ℕ
 value v [] = v
 value v (b ∷ s) = elim (digit b) [ true ↦ value (10 * v + (b - 0x30)) s | false ↦ v ]
 
+-- all digits from place j on
+abbrev pub digitsAt : List ℕ → ℕ → Number
+digitsAt s j = number (value 0 (drop j s)) (j + digits (drop j s))
+
 unfoldable pub numberAt : List ℕ → ℕ → Number
 numberAt s i =
     let j = skip s i in
     elim (digit (byteAt s j)) [
       | true ↦ elim (eqb (byteAt s j) 0x30 && digit (byteAt s (j + 1))) [
         | true ↦ none
-        | false ↦ number (value 0 (drop j s)) (j + digits (drop j s))
+        | false ↦ digitsAt s j
       ]
       | false ↦ none
     ]

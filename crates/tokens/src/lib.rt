@@ -12,10 +12,11 @@ ghost use Rattle.tokens.specs.Tokens.{
   skip,
   touches,
   startsWith,
+  digitsAt,
   numberAt,
   nameBytes,
 };
-ghost use Rattle.tokens.specs.Places.{tokenAt, nameAt, goesOn, capped, digitsAt, Past, PastNumber};
+ghost use Rattle.tokens.specs.Places.{tokenAt, nameAt, goesOn, capped, Past, PastNumber};
 
 // Where the reading goes on: nowhere, since what was looked for does not stand there, or behind it.
 pub enum Went {

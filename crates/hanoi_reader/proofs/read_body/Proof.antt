@@ -7,7 +7,7 @@ use lib.ListN.{length, replicate}
 use borrow.Author.Needs.{needs}
 use Rattle.automaton.specs.Automata.{wholeOf}
 use Rattle.hanoi_reader.specs.Taking.{headOf}
-use Rattle.hanoi_reader.proofs.ReadLaws.{Going, going-starts, going-stops, going-ends, going-declared, going-past, ended-read}
+use Rattle.hanoi_reader.proofs.ReadLaws.{Going, going-starts, going-stops, going-ends, going-past, ended-read}
 use Rattle.hanoi_reader.proofs.read_body.Statement.{statement}
 use Rattle.hanoi_reader.proofs.read_body.Tie as tie
 
@@ -26,7 +26,9 @@ loop-holds c =
     (going-starts (s .args .text .now) (s .args .header) (s .args .body) (s .pre .0))
 
 take-part-requires : tie.Need-take-part-requires Inv-loop μ-loop
-take-part-requires c κs = (c .before .before .before .loop .inv .within, c .before .before .before .before .before .pre .0 .in-ranges)
+take-part-requires c κs =
+    let g = c .before .before .before .loop .inv in
+    (g .within, c .before .before .before .before .before .pre .0 .in-ranges, (g .description, g .well-formed, g .held))
 
 enum-known-number : tie.Need-enum-known-number Inv-loop μ-loop
 enum-known-number c = search needs
@@ -68,7 +70,7 @@ loop-less c =
     let s = c .before .before .before .before .before .before .before .before .before .args in
     let l = c .before .before .before .before .before .before .before .loop in
     let k = c .before .before .before .take-part in
-    let g = going-declared (s .text .now) (s .header) (l .at) (l .latest) _ _ (l .inv) _ _ _ _ _ (k .ensures (l .inv .description) (l .inv .well-formed) (l .inv .held))
+    let g = going-past (s .text .now) (s .header) (l .at) (l .latest) _ _ (l .inv) _ _ _ _ _ (k .ensures (l .inv .description) (l .inv .well-formed) (l .inv .held))
     (c .before .q .given .1) in
     omega (arith, g .1, g .2)
 
@@ -77,29 +79,8 @@ loop-again c =
     let s = c .before .before .before .before .before .before .before .before .before .args in
     let l = c .before .before .before .before .before .before .before .loop in
     let k = c .before .before .before .take-part in
-    let g = going-declared (s .text .now) (s .header) (l .at) (l .latest) _ _ (l .inv) _ _ _ _ _ (k .ensures (l .inv .description) (l .inv .well-formed) (l .inv .held))
+    let g = going-past (s .text .now) (s .header) (l .at) (l .latest) _ _ (l .inv) _ _ _ _ _ (k .ensures (l .inv .description) (l .inv .well-formed) (l .inv .held))
     (c .before .q .given .1) in
-    g .0
-
-enum-known-next : tie.Need-enum-known-next Inv-loop μ-loop
-enum-known-next c = search needs
-
-loop-less-2 : tie.Need-loop-less-2 Inv-loop μ-loop
-loop-less-2 c =
-    let s = c .before .before .before .before .before .before .before .before .before .args in
-    let l = c .before .before .before .before .before .before .before .loop in
-    let k = c .before .before .before .take-part in
-    let g = going-past (s .text .now) (s .header) (l .at) (l .latest) _ _ (l .inv) _ _ _ _ (k .ensures (l .inv .description) (l .inv .well-formed) (l .inv .held))
-    (c .before .next .given .1) in
-    omega (arith, g .1, g .2)
-
-loop-again-2 : tie.Need-loop-again-2 Inv-loop μ-loop
-loop-again-2 c =
-    let s = c .before .before .before .before .before .before .before .before .before .args in
-    let l = c .before .before .before .before .before .before .before .loop in
-    let k = c .before .before .before .take-part in
-    let g = going-past (s .text .now) (s .header) (l .at) (l .latest) _ _ (l .inv) _ _ _ _ (k .ensures (l .inv .description) (l .inv .well-formed) (l .inv .held))
-    (c .before .next .given .1) in
     g .0
 
 pub read-body-spec : {M : Type 1} → statement M
@@ -118,7 +99,4 @@ read-body-spec =
     returns-2
     enum-known-q
     loop-less
-    loop-again
-    enum-known-next
-    loop-less-2
-    loop-again-2)
+    loop-again)

@@ -1,5 +1,5 @@
 -- `take_part` meets its contract, by the token that stands at the place. Assumes nothing.
-use mathlib.Core.Path.{sym, _∙_}
+use mathlib.Core.Path.{refl, sym, _∙_}
 use Prim.Native.Nat.{_+_}
 use native.Mathlib.Omega.{arith}
 use Rattle.tokens.proofs.Places.{past-behind}
@@ -56,7 +56,7 @@ returns-3 c =
     let n = c .before .before .before .before .next2 .given .1 in
     let k = c .before .before .before .before .before .before .token2 .ensures in
     let p = past-behind (s .text .now) (s .at + 6) _ _ (k .1) n in
-    λ D f H. taken-as (s .text .now) (s .at) (s .header) (s .latest) D _ _ _ _ _
+    λ D f H. taken-as (s .text .now) (s .at) (s .header) D _ _ _ _ _ _
     (state-part (s .text .now) (s .at) (s .header) (s .latest) D _ _ H _ (c .before .before .before .before .before .before .before .before .before .before .token .ensures .0) (c .before .before .before .before .before .before .before .before .enum-told .given .1) _ (k .0) _ n)
     (c .take-state .ensures (s .latest) _ D (s .at) (omega (arith, p .0)) H)
 
@@ -89,6 +89,7 @@ returns-5 c =
       edge-part (s .text .now) (s .at) (s .header) (s .latest) D _ _ H _ (c .before .before .before .before .before .before .before .before .before .before .before .before .token .ensures .0) (c .before .before .before .before .before .before .before .before .before .before .enum-told .given .1) _ (c .before .before .before .before .before .before .before .before .token2 .ensures .0)
           (c .before .before .before .before .before .before .enum-told2 .given .1) _ (c .before .before .before .before .token3 .ensures .0) _ (c .before .before .next3 .given .1) ∙ latest-none (s .text .now) _ (s .latest) D f (H .latest) (c .if2 .taken),
       H .automaton,
+      refl,
     )
 
 take-edge-requires : tie.Need-take-edge-requires
@@ -102,7 +103,7 @@ returns-6 c =
     let n = c .before .before .before .before .next3 .given .1 in
     let k = c .before .before .before .before .before .before .token3 .ensures in
     let p = past-behind (s .text .now) (s .at + 1) _ _ (k .1) n in
-    λ D f H. taken-as (s .text .now) (s .at) (s .header) (s .latest) D _ _ _ _ _
+    λ D f H. taken-as (s .text .now) (s .at) (s .header) D _ _ _ _ _ _
     (edge-part (s .text .now) (s .at) (s .header) (s .latest) D _ _ H _ (c .before .before .before .before .before .before .before .before .before .before .before .before .before .before .token .ensures .0) (c .before .before .before .before .before .before .before .before .before .before .before .before .enum-told .given .1) _ (c .before .before .before .before .before .before .before .before .before .before .token2 .ensures .0)
     (c .before .before .before .before .before .before .before .before .enum-told2 .given .1) _ (k .0) _ n ∙ latest-some (s .text .now) _ (s .latest) D (H .latest) (omega (arith, c .before .before .if2 .left)))
     (c .take-edge .ensures _ _ D (s .at) (omega (arith, p .0)) H)
