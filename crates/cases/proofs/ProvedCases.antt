@@ -90,7 +90,7 @@ each (d ∷ cs) t c m =
     ⊎-elim (λ e. subst (λ (x : Case). T (test x)) (sym e) (h .0)) (λ k. each cs (h .1) c k) (List·Memᴰ·cases-cons m)
 
 computed : T (every cases)
-unfolding every test judged ranges.some ranges.those ranges.chained ranges.table ranges.largest automata.accepts automata.transition automata.targets automata.bare automata.withAccepting automata.withTransition automata.headerValues paths.relation paths.through paths.rounds paths.closure writing.itemsBytes records.recordIn file.header file.takes file.records file.readFile ends.edge ends.paths ends.live ends.dead ends.deadStates ends.hasDead slots.sameList slots.sameVertex slots.allZero graph.initialCounter graph.initialVertex graph.counter graph.stepped graph.successor graph.successors walks.walkOf walks.wordOf contain.comparing contain.deciding contain.containing contain.wordPart lasso.only lasso.onLetter lasso.onWord lasso.loopRuns lasso.loopVisits lasso.accepted form.acceptingItems form.transitionItems form.written writes.writing writes.writeOf tokens.whites tokens.skip tokens.startsWith tokens.stands tokens.digits tokens.value tokens.numberAt tokens.nameBytes labels.truth reads.atomAt reads.more reads.conjunction reads.disjunction reads.operandAt reads.labelAt texts.expect texts.expectNumber texts.check texts.names texts.named texts.acceptance texts.isDeclared texts.stateAt texts.edgeAt texts.edgeOf texts.endAt texts.partAt texts.header texts.body texts.readHanoi meaning.withLetters meaning.withPart meaning.withParts meaning.automatonOf calls.hanoiOf
+unfolding every test judged ranges.some ranges.those ranges.chained ranges.table ranges.largest automata.accepts automata.transition automata.targets automata.bare automata.withAccepting automata.withTransition automata.headerValues paths.relation paths.through paths.rounds paths.closure writing.itemsBytes records.recordIn file.header file.takes file.records file.readFile ends.edge ends.paths ends.live ends.dead ends.deadStates ends.hasDead slots.sameList slots.sameVertex slots.allZero graph.initialCounter graph.initialVertex graph.counter graph.stepped graph.successor graph.successors walks.walkOf walks.wordOf contain.comparing contain.deciding contain.containing contain.wordPart lasso.only lasso.onLetter lasso.onWord lasso.loopRuns lasso.loopVisits lasso.accepted form.acceptingItems form.transitionItems form.written writes.writing writes.writeOf tokens.whites tokens.skip tokens.startsWith tokens.stands tokens.digits tokens.value tokens.numberAt tokens.nameBytes labels.truth reads.atomAt reads.more reads.conjunction reads.disjunction reads.operandAt reads.labelAt texts.expect texts.expectNumber texts.check texts.names texts.accNameItem texts.acceptance texts.isDeclared texts.stateAt texts.edgeAt texts.edgeOf texts.endAt texts.partAt texts.header texts.body texts.readHanoi meaning.withLetters meaning.withPart meaning.withParts meaning.automatonOf calls.hanoiOf
 computed = tt
 
 pub proved-cases : (c : Case) → List·Memᴰ c cases → Right c
