@@ -1,4 +1,4 @@
--- A state that a file does not declare has no edges and does not accept: every edge belongs to a state that stands before it in the text, and only a
+-- A state that a file leaves undeclared neither accepts nor has transitions: an edge belongs to a state that stands before it in the text, and only a
 -- declaration makes a state accepting. Assumes nothing.
 use mathlib.Core.Path.{_≡_, refl, subst, sym}
 use mathlib.Core.Bool.{Bool, true, false}

@@ -1,6 +1,6 @@
 -- What a Hanoi text says (02, S-2), before it is an automaton.
 --   maxPropositions   the most propositions that a text may have
---   Part            a line of the body: a state declared, accepting or not, or an edge of the state declared last
+--   Part            a piece of the body: a state declared, accepting or not, or an edge of the state declared last
 --   Description     what a text describes: the header's numbers, and the parts
 --   headed n q k  the description of a header alone
 --   extended x D   the part x stands behind what D describes

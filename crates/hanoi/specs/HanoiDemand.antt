@@ -41,7 +41,7 @@ pub record TextReads (s : List ℕ) : Type 0 where
   -- the automaton that is computed is the one that D describes, transition by transition, and there is no other
   pub automaton : (D : Description) → IsFile s D → IsDescribed D (automatonOf D)
   pub only : (D : Description) (A : Automaton) → IsFile s D → IsDescribed D A → A ≡ automatonOf D
-  -- a state that is not declared has no edges and does not accept
+  -- a state that is not declared neither accepts nor has transitions
   pub undeclared : (D : Description) (A : Automaton) (q : ℕ) → IsFile s D → IsDescribed D A → (Declares q (D .parts) → ⊥)
       → (accepts A q ≡ false) × ((a r : ℕ) → transition A q a r ≡ false)
 

@@ -27,7 +27,7 @@ pub enum Walk {
 
 /// Why a call was refused. A refused call has changed no entry, no word buffer and no output buffer.
 ///
-/// `file` is `None` where the call has one automaton file only, `walk` is `None` where it makes one walk only.
+/// `file` is `None` where the call has one automaton file only, and the text where a Hanoi text is read; `walk` is `None` where it makes one walk only.
 ///
 /// ```
 /// use edition::{Argument, Buffers, Refusal};
