@@ -157,7 +157,7 @@ pub fn hanoi(arguments: &Arguments) -> Result<Answer, Failure> {
         return Ok(put(arguments, hanoi::file_of(&text, "TEXT")));
     }
     let extras = extra::find(&text);
-    let mut answer = put(arguments, hanoi::file_of(&extra::without(&text, &extras), "TEXT"));
+    let mut answer = put(arguments, hanoi::file_of_rest(&extra::without(&text, &extras), "TEXT"));
     answer.besides.extend(hanoi::dropped_lines(&extras, &text));
     Ok(answer.with("dropped", hanoi::dropped_values(&extras, &text)))
 }

@@ -11,7 +11,7 @@ use json::Value;
 
 use crate::answer::{advised, Answer};
 use extra::Extra;
-use fault::Fault;
+use fault::{Fault, ABORTED};
 use place::Place;
 
 /// The advice on a file that does not begin as a text.
@@ -19,13 +19,19 @@ const OTHER_FILE: &str = "give a text that begins with HOA: v1; an automaton fil
 
 /// The automaton file that the kernel makes of the text, which is the operand of this name, or the answer of its refusal.
 pub fn file_of(text: &[u8], operand: &'static str) -> Result<Vec<u8>, Box<Answer>> {
-    edition::from_hanoi(text).map_err(|refusal| Box::new(refused(&refusal, text, operand)))
+    edition::from_hanoi(text).map_err(|refusal| Box::new(refused(&refusal, text, operand, &extra::find(text))))
 }
 
-/// The answer of a text that the kernel refuses: the place that looks wrong, if one is found, stands before the advice.
-fn refused(refusal: &Refusal, text: &[u8], operand: &'static str) -> Answer {
+/// As `file_of`, of what is left of a text without its extras: no advice is to take out more.
+pub fn file_of_rest(rest: &[u8], operand: &'static str) -> Result<Vec<u8>, Box<Answer>> {
+    edition::from_hanoi(rest).map_err(|refusal| Box::new(refused(&refusal, rest, operand, &[])))
+}
+
+/// The answer of a text that the kernel refuses, of which these extras may be taken out: the place that looks wrong, if one is found, stands
+/// before the advice.
+fn refused(refusal: &Refusal, text: &[u8], operand: &'static str, extras: &[Extra]) -> Answer {
     let fault = fault::find(text).filter(|fault| fault.number == refusal.number());
-    let mut answer = advised(refusal, advice(refusal, text, fault.as_ref()));
+    let mut answer = advised(refusal, advice(refusal, text, fault.as_ref(), extras));
     if let Some(fault) = fault {
         let Place { line, column } = Place::of(text, fault.at);
         let place = format!("\nwhere: {operand}, line {line}, column {column}: {}", fault.what);
@@ -38,20 +44,19 @@ fn refused(refusal: &Refusal, text: &[u8], operand: &'static str) -> Answer {
     answer
 }
 
-/// What to do about a refused text.
-fn advice(refusal: &Refusal, text: &[u8], fault: Option<&Fault>) -> String {
+/// What to do about a refused text, of which these extras may be taken out.
+fn advice(refusal: &Refusal, text: &[u8], fault: Option<&Fault>, extras: &[Extra]) -> String {
     let own = match fault.and_then(|fault| fault.advice) {
         _ if !edition::is_hanoi(text) => OTHER_FILE.into(),
         Some(advice) => advice.into(),
         None => refusal.advice(),
     };
-    let extras = extra::find(text);
-    if extras.is_empty() || refusal.number() != 17 {
+    if extras.is_empty() || refusal.number() != 17 || own == ABORTED {
         return own;
     }
     let dropping = format!(
         "`./edition hanoi --drop-extra TEXT OUT` takes out what has no effect on the automaton's words, here {}",
-        listed(&extras)
+        listed(extras)
     );
     match fault.is_some_and(|fault| extras.iter().any(|extra| extra.range.contains(&fault.at))) {
         true => dropping,

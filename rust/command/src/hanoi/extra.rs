@@ -27,13 +27,14 @@ impl Extra {
     }
 }
 
-/// What may be taken out of the text, from its front to its back. Of a text that is none of the format this may be nothing.
+/// What may be taken out of the text, from its front to its back or to `--ABORT--`. Of a text that is none of the format this may be nothing.
 pub fn find(text: &[u8]) -> Vec<Extra> {
-    let comments = Tokens::of(text).filter(|token| token.kind == Kind::Comment);
+    let tokens = Tokens::of(text).take_while(|token| !token.is("--ABORT--"));
+    let comments = tokens.clone().filter(|token| token.kind == Kind::Comment);
     let mut extras: Vec<Extra> = comments
         .map(|token| Extra::new("a comment".into(), token.range()))
         .collect();
-    let mut tokens = Tokens::of(text).filter(|token| token.kind != Kind::Comment);
+    let mut tokens = tokens.filter(|token| token.kind != Kind::Comment);
     if tokens.next().is_some_and(|token| token.is("HOA:")) {
         let header: Vec<Token> = tokens.by_ref().take_while(|token| !token.is("--BODY--")).collect();
         extras.extend(items(&header));
@@ -79,6 +80,7 @@ fn number_lines(extras: &mut [Extra], text: &[u8]) {
 /// The items of a header that have no effect. An item goes from its name to the token before the next name.
 fn items(header: &[Token]) -> Vec<Extra> {
     let names = (0..header.len()).filter(|&place| header[place].kind == Kind::Header);
+    let names = names.filter(|&place| is_whole(&header[..=place]));
     let items = names.map(|place| {
         let values = header[place + 1..].iter();
         let length = values.take_while(|token| token.kind != Kind::Header).count();
@@ -91,6 +93,16 @@ fn items(header: &[Token]) -> Vec<Extra> {
             Extra::new(format!("`{}`", name.shown()), name.at..last.range().end)
         })
         .collect()
+}
+
+/// Whether the last of the tokens is a whole name. With a byte of no token right in front of it, or in front of the words and numbers that
+/// touch it, it is the end of something else, such as `edges:` in `spot.highlight.edges:`.
+fn is_whole(tokens: &[Token]) -> bool {
+    let pairs = tokens.windows(2).rev();
+    let mut touching = pairs
+        .take_while(|pair| pair[0].range().end == pair[1].at)
+        .map(|pair| pair[0].kind);
+    touching.find(|kind| !matches!(kind, Kind::Word | Kind::Number)) != Some(Kind::Other)
 }
 
 /// Whether the standard lets a reader ignore the item: its name begins with a small letter, and nothing in it speaks against that. The name
@@ -190,10 +202,38 @@ mod tests {
         for item in ["Alias: @a 0", "Custom: 1", "_x: 1", "Name: \"x\""] {
             keeps(&headed(item), "");
         }
-        for item in ["name: [0]", "x: @a", "x: a & b", "x: #", "properties: a --ABORT--"] {
+        for item in ["name: [0]", "x: @a", "x: a & b", "x: #"] {
             keeps(&headed(item), "");
         }
         keeps(&headed("x: 1 Custom: 1 y: 2"), "x: 1¦y: 2");
+    }
+
+    #[test]
+    fn the_end_of_a_name_that_is_none_of_version_1_stays() {
+        for item in [
+            "spot.highlight.edges: 1 1",
+            "a.1b: 2",
+            "a.b1.2c:",
+            "-x: 1",
+            "1.x: 1",
+            "éx: 1",
+        ] {
+            keeps(&headed(item), "");
+            keeps(&headed(&format!("{item} name: \"x\"")), "name: \"x\"");
+            keeps(&headed(&format!("x: y {item}")), "");
+        }
+        keeps(&headed(". x: 1"), "x: 1");
+        keeps(&headed("./**/x: 1"), "/**/¦x: 1");
+    }
+
+    #[test]
+    fn past_an_abort_nothing_goes() {
+        let past = "x: 1 /* a */ --BODY-- State: 0 \"a\"";
+        keeps(&headed(&format!("name: \"x\" --ABORT-- {past}")), "name: \"x\"");
+        keeps(&with_body(&format!("/* b */ State: 0 --ABORT-- {past}")), "/* b */");
+        keeps(&format!("HOA: v1 --ABORT-- {}", headed(past)), "");
+        takes(&headed("name: \"--ABORT--\" x: 1"), "name: \"--ABORT--\"¦x: 1");
+        takes(&headed("/* --ABORT-- */ x: 1"), "/* --ABORT-- */¦x: 1");
     }
 
     #[test]

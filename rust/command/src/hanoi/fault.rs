@@ -20,6 +20,10 @@ pub struct Fault {
     pub advice: Option<&'static str>,
 }
 
+/// What to do about a text with `--ABORT--`, whatever else it has.
+pub const ABORTED: &str = "run the translator again: it gave up, and this text is no whole automaton";
+
+const VERSION: &str = "have the translator write version 1 of the format: HOA: v1";
 const ORDER: &str = "write the header items HOA: v1, States, Start, AP, acc-name: Buchi (or leave this one out), Acceptance: 1 Inf(0), \
                      in this order and each only once";
 const ON_STATES: &str =
@@ -37,6 +41,9 @@ const CAPITAL: &str = "an item or a property whose name begins with a capital ma
                        leave it out";
 const ONCE: &str = "declare each state once, with all its edges behind it";
 const DEPTH: &str = "write the label with at most 64 negations and parentheses around any one place";
+const TOUCHING: &str = "put white space between it and what stands before it";
+const FIRST_STATE: &str = "write `State:` and its number before the first edge";
+const BODY: &str = "write nothing behind --BODY-- but states, their edges and --END--";
 const LABEL: &str = "write the label with t, f, numbers of AP's propositions, !, &, | and parentheses";
 
 /// What should stand at a place.
@@ -69,16 +76,26 @@ impl fmt::Display for Wanted {
     }
 }
 
-/// The first fault of a text.
+/// The first fault of a text. One of the format in a text with `--ABORT--` is told with it, since that alone says what to do.
 pub fn find(text: &[u8]) -> Option<Fault> {
     let mut reader = Reader {
         text,
         tokens: Tokens::of(text).peekable(),
         states: 0,
         propositions: 0,
+        is_body: false,
         declared: Vec::new(),
     };
-    reader.file().err()
+    let mut fault = reader.file().err()?;
+    let mut tokens = Tokens::of(text).take_while(|token| !token.is("--END--"));
+    let abort = tokens.find(|token| token.is("--ABORT--"));
+    if let Some(abort) = abort.filter(|_| fault.number == 17) {
+        fault.advice = Some(ABORTED);
+        if abort.at > fault.at {
+            fault.what += "; and `--ABORT--` stands further on";
+        }
+    }
+    Some(fault)
 }
 
 /// Reads a text by the subset's rules, as far as it goes by them.
@@ -87,12 +104,15 @@ struct Reader<'a> {
     tokens: Peekable<Tokens<'a>>,
     states: u64,
     propositions: u64,
+    /// Whether it is behind `--BODY--`.
+    is_body: bool,
     declared: Vec<u64>,
 }
 
 impl<'a> Reader<'a> {
     fn file(&mut self) -> Result<(), Fault> {
         self.header()?;
+        self.is_body = true;
         while self.part()? {}
         match self.tokens.next() {
             Some(token) => Err(wrong(&token, "behind `--END--`", Some(ONE))),
@@ -139,9 +159,13 @@ impl<'a> Reader<'a> {
             return Err(wrong(&token, "is declared a second time", Some(ONCE)));
         }
         self.declared.push(state);
-        match self.stands("{") {
-            true => self.words(&["{", "0", "}"]),
-            false => Ok(()),
+        match self.tokens.peek() {
+            Some(next) if next.is("{") => self.words(&["{", "0", "}"]),
+            Some(next) if next.kind == Kind::Quoted => {
+                let what = format!("the state name {}, which is not read", next.shown());
+                Err(wrong_at(next.at, what, None))
+            }
+            _ => Ok(()),
         }
     }
 
@@ -220,7 +244,8 @@ impl<'a> Reader<'a> {
         }
         let token = self.token(wanted)?;
         if token.bytes.len() > 1 && token.bytes[0] == b'0' {
-            return Err(wrong(&token, "begins with 0, as no longer number does", None));
+            let what = "begins with 0, and a number of several digits may not";
+            return Err(wrong(&token, what, None));
         }
         let value = token.shown().parse().unwrap_or(u64::MAX);
         Ok((value, token))
@@ -247,7 +272,7 @@ impl<'a> Reader<'a> {
         let token = self.tokens.next().ok_or_else(|| ends(self.text, wanted))?;
         let front = token.at.saturating_sub(1)..token.at + 1;
         match front.len() == 2 && self.text[front].iter().all(u8::is_ascii_alphanumeric) {
-            true => Err(wrong(&token, "needs white space before it", None)),
+            true => Err(wrong(&token, "needs white space before it", Some(TOUCHING))),
             false => Ok(token),
         }
     }
@@ -261,6 +286,7 @@ impl<'a> Reader<'a> {
             Kind::Comment => ("a comment, which is not read".into(), None),
             Kind::Unfinished => ("a string or comment that does not end".into(), None),
             Kind::Alias => (format!("the alias `{}`", token.shown()), Some(ALIASES)),
+            Kind::Header if self.is_body => usual(&token, wanted),
             Kind::Header if is_known(&token) => (instead(&token, wanted), Some(ORDER)),
             Kind::Header => self.other_item(&token),
             _ => usual(&token, wanted),
@@ -277,7 +303,8 @@ impl<'a> Reader<'a> {
             return (format!("{item}, which is not read"), Some(advice));
         }
         let values = self.tokens.clone().skip(1).filter(|token| token.kind != Kind::Comment);
-        let values = values.take_while(|token| token.kind != Kind::Header && !token.is("--BODY--"));
+        let values = values.take_while(|token| token.kind != Kind::Header);
+        let values = values.take_while(|token| !token.is("--BODY--") && !token.is("--ABORT--"));
         match extra::obstacle(name, values) {
             Some(value) if value.kind == Kind::Word => (format!("{item} with `{}`", value.shown()), Some(CAPITAL)),
             Some(value) => (format!("{item} with `{}`, which no such item has", value.shown()), None),
@@ -306,10 +333,14 @@ fn usual(token: &Token, wanted: Wanted) -> (String, Option<&'static str>) {
             Some(ON_STATES),
         ),
         (Wanted::Part, b"&") => ("`&` behind a target".into(), Some(BRANCHING)),
-        (Wanted::Part, b"[") => ("an edge before the first `State:`".into(), None),
+        (Wanted::Part, b"[") => ("an edge before the first `State:`".into(), Some(FIRST_STATE)),
         (Wanted::Part, _) if token.kind == Kind::Number => (format!("`{shown}` without a label"), Some(LABELS)),
-        (Wanted::Part, _) if token.kind == Kind::Quoted => (format!("the state name {shown}, which is not read"), None),
+        (Wanted::Part, _) if token.kind == Kind::Quoted => {
+            ("a string, which may stand behind a state's number only".into(), None)
+        }
+        (Wanted::Part, _) if token.kind == Kind::Header => (instead, Some(BODY)),
         (Wanted::State, b"[") => ("a label on a state".into(), Some(LABELS)),
+        (Wanted::Word("v1"), _) | (Wanted::Word("States:"), b".") => (instead, Some(VERSION)),
         (Wanted::Word("AP:"), b"&") => ("`&` behind the initial state".into(), Some(BRANCHING)),
         (Wanted::Word("AP:" | "Acceptance:"), _) => (instead, Some(ORDER)),
         (Wanted::Word("1" | "Inf" | "(" | "0" | "Buchi" | "}" | "--BODY--"), _) => (instead, Some(ON_STATES)),
@@ -357,7 +388,7 @@ fn wrong_at(at: usize, what: String, advice: Option<&'static str>) -> Fault {
 
 #[cfg(test)]
 mod tests {
-    use super::find;
+    use super::{find, ABORTED, BODY, FIRST_STATE, LABEL, ONE, TOUCHING, VERSION};
 
     const WHOLE: &str =
         "HOA: v1\nStates: 2\nStart: 0\nAP: 2 \"p\" \"q\"\nacc-name: Buchi\nAcceptance: 1 Inf(0)\n--BODY--\n\
@@ -372,6 +403,13 @@ mod tests {
         assert_eq!(fault.number, refusal.number(), "{text}: {fault:?}");
         assert!(text[fault.at..].starts_with(at), "{fault:?}");
         assert!(fault.what.contains(what), "{fault:?}");
+    }
+
+    /// As `faults`, and this is the advice.
+    fn advises(old: &str, new: &str, at: &str, what: &str, advice: &str) {
+        faults(old, new, at, what);
+        let fault = find(WHOLE.replace(old, new).as_bytes());
+        assert_eq!(fault.and_then(|fault| fault.advice), Some(advice), "{new}");
     }
 
     #[test]
@@ -413,7 +451,49 @@ mod tests {
             "where `AP:` should stand",
         );
         faults("Start: 0\n", "Start: 0&1\n", "&1", "`&` behind the initial state");
-        faults("HOA: v1", "HOA: v2", "v2", "`v2` where `v1` should stand");
+    }
+
+    #[test]
+    fn another_version_is_named() {
+        for version in ["v2", "v1-1", "v10"] {
+            let what = format!("`{version}` where `v1` should stand");
+            advises("HOA: v1", &format!("HOA: {version}"), version, &what, VERSION);
+        }
+        let what = "`.` where `States:` should stand";
+        advises("HOA: v1", "HOA: v1.1", ".1", what, VERSION);
+    }
+
+    #[test]
+    fn a_header_word_in_the_body_is_no_header_item() {
+        for word in ["name:", "Alias:", "States:", "HOA:", "acc-name:"] {
+            let what = format!("`{word}` where `State:`, `[` or `--END--` should stand");
+            advises("--END--", &format!("{word} --END--"), word, &what, BODY);
+        }
+        faults("[f] 0", "[f] x:", "x:", "`x:` where the edge's target should stand");
+        advises("[f] 0", "[f x:] 0", "x:", "`x:` where `]` should stand", LABEL);
+        faults("State: 1", "State: x:", "x:", "`x:` where the number of a state");
+    }
+
+    #[test]
+    fn an_abort_decides_the_advice_wherever_it_stands() {
+        let what = "`--ABORT--`: the translator has given up";
+        for place in ["HOA: ", "States: ", "Start: ", "--BODY--", "[f", "[f] "] {
+            advises(place, &format!("{place} --ABORT-- "), "--ABORT--", what, ABORTED);
+        }
+        advises("--END--", "--ABORT--", "--ABORT--", what, ABORTED);
+        let further = "which is not read; and `--ABORT--` stands further on";
+        for item in [
+            "name: \"x\" --ABORT--",
+            "name: x: --ABORT--",
+            "name: States: 2 --ABORT--",
+        ] {
+            advises("States: 2", item, "name:", further, ABORTED);
+        }
+        let further = "`2` where `1` should stand; and `--ABORT--` stands further on";
+        advises("1 Inf(0)", "2 Inf(0)&Inf(1) --ABORT--", "2 Inf", further, ABORTED);
+        faults("States: 2", "States: 33 --ABORT--", "33", "States is 1 to 32");
+        advises("--END--", "--END-- --ABORT--", "--ABORT--", "behind `--END--`", ONE);
+        faults("--BODY--", "x: \"--ABORT--\" --BODY--", "x:", "`x:`, which is not read");
     }
 
     #[test]
@@ -428,12 +508,14 @@ mod tests {
         );
         faults("Start: 0", "Start: 2", "2", "Start is below States");
         faults("AP: 2", "AP: 5", "5", "AP has at most 4");
-        faults("AP: 2", "AP: 05", "05", "begins with 0");
+        let what = "begins with 0, and a number of several digits may not";
+        faults("AP: 2", "AP: 05", "05", what);
         faults("State: 1", "State: 2", "2", "states are below States");
         faults("State: 1", "State: 0", "0\n--END", "is declared a second time");
         faults("[f] 0", "[f] 2", "2", "targets are below States");
         faults("[f] 0", "[2] 0", "2]", "is no proposition of AP");
-        faults("States: 2\n", "States: 2", "Start:", "needs white space before it");
+        let what = "needs white space before it";
+        advises("States: 2\n", "States: 2", "Start:", what, TOUCHING);
     }
 
     #[test]
@@ -457,12 +539,12 @@ mod tests {
         faults("[f] 0", "0", "0\nState: 1", "`0` without a label");
         faults("State: 0 {0}", "State: [t] 0", "[t]", "a label on a state");
         faults("State: 0 {0}", "State: 0 \"a\"", "\"a\"", "the state name \"a\"");
-        faults(
-            "State: 0 {0}",
-            "[t] 0 State: 0",
-            "[t]",
-            "an edge before the first `State:`",
-        );
+        let what = "a string, which may stand behind a state's number only";
+        faults("State: 0 {0}", "State: 0 {0} \"a\"", "\"a\"", what);
+        faults("[f] 0", "[f] 0 \"a\"", "\"a\"", what);
+        faults("--BODY--", "--BODY-- \"a\"", "\"a\"", what);
+        let what = "an edge before the first `State:`";
+        advises("State: 0 {0}", "[t] 0 State: 0", "[t]", what, FIRST_STATE);
         faults("[f] 0", "[f] 0&1", "&1", "`&` behind a target");
         faults("[f]", "[@a]", "@a", "the alias `@a`");
         faults("[f]", "[]", "] 0", "`]` where `t`");
@@ -486,7 +568,6 @@ mod tests {
         faults("\"q\"", "\"q", "\"q\n", "does not end");
         faults("\"q\"", "\"q\\\"\"", "\\\"", "a byte that no name has");
         faults("\"q\"", "q", "q", "`q` where the name of a proposition should stand");
-        faults("--END--", "--ABORT--", "--ABORT--", "the translator has given up");
         faults(
             "--END--",
             "",

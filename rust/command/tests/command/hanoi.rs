@@ -310,6 +310,7 @@ fn advice_names_the_likely_cause() {
     folder.write("two.hoa", &[folder.read("f.hoa"), folder.read("g.hoa")].concat());
     folder.write("capital.hoa", b"HOA: v1 properties: Weak States: 1");
     folder.write("branch.hoa", b"HOA: v1 States: 2 Start: 0&1");
+    folder.write("newer.hoa", b"HOA: v1.1 States: 2");
     for (text, place, advice) in [
         (
             "translated",
@@ -351,6 +352,11 @@ fn advice_names_the_likely_cause() {
             "line 1, column 27: `&` behind the initial state",
             "one initial state",
         ),
+        (
+            "newer",
+            "line 1, column 8: `.` where `States:` should stand",
+            "version 1 of the format: HOA: v1",
+        ),
     ] {
         let run = run(&folder, &format!("hanoi {text}.hoa o.ba"));
         let lines: Vec<&str> = run.out.lines().collect();
@@ -391,7 +397,7 @@ fn advice_lists_what_drop_extra_takes_out() {
     );
     assert!(
         run2.out
-            .contains("aliases and comments; `./edition hanoi --drop-extra TEXT OUT` takes out"),
+            .contains("of the format: HOA: v1; `./edition hanoi --drop-extra TEXT OUT` takes out"),
         "{run2:?}"
     );
     assert!(run2.out.contains(listed), "{run2:?}");
@@ -402,6 +408,10 @@ fn advice_lists_what_drop_extra_takes_out() {
             .contains("what to do: `./edition hanoi --drop-extra TEXT OUT` takes out"),
         "{run3:?}"
     );
+    folder.write("abort.hoa", TRANSLATED.replace("--END--", "--ABORT--").as_bytes());
+    let aborted = run(&folder, "hanoi abort.hoa o.ba");
+    let advice = "`--ABORT--` stands further on\nwhat to do: run the translator again: it gave up, and this text is no whole automaton\n";
+    assert!(aborted.out.ends_with(advice), "{aborted:?}");
     let many: String = ('a'..='j').map(|letter| format!("{letter}:\n")).collect();
     folder.write("many.hoa", format!("HOA: v1\n{many}").as_bytes());
     let run4 = run(&folder, "hanoi many.hoa o.ba");
@@ -464,7 +474,26 @@ fn what_is_left_after_drop_extra_is_still_judged_by_the_kernel() {
             "due.",
             "line 12, column 1: a string or comment that does not end",
         ),
-        ("[1] 0", "[1] 0 \"x\"", "line 17, column 7: the state name \"x\""),
+        (
+            "[1] 0",
+            "[1] 0 \"x\"",
+            "line 17, column 7: a string, which may stand behind a state's number only",
+        ),
+        (
+            "\"idle\"",
+            "\"idle\"\"b\"",
+            "line 13, column 16: the state name \"b\", which is not read",
+        ),
+        (
+            "properties: trans",
+            "spot.highlight.edges: 1 1 properties: trans",
+            "line 9, column 1: `spot` where `--BODY--` should stand",
+        ),
+        (
+            "[1] 0",
+            "--ABORT--",
+            "line 17, column 1: `--ABORT--`: the translator has given up",
+        ),
     ] {
         let text = TRANSLATED.replacen(old, new, 1);
         assert_ne!(text, TRANSLATED, "{old}");
