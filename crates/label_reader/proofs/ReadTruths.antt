@@ -11,11 +11,12 @@ use lib.ListN.{length, getD}
 use borrow.Author.Tests.{eq-eqb, ne-eqb, lt-ltb, le-ltb}
 use Rattle.tokens.specs.declared.Numeral.{Numeral}
 use Rattle.tokens.specs.declared.Numeral.the-variants.{Missing, Value}
-use Rattle.tokens.specs.Tokens.{byteAt, skip, Number, none, number, numberAt}
+use Rattle.tokens.specs.Tokens.{byteAt, skip, Number, none, number}
 use Rattle.tokens.specs.Places.{capped}
 use Rattle.tokens.proofs.Runs.{skip-end, byte-past}
 use Rattle.labels.specs.Labels.{Label, propositionMask, maskOf}
-use Rattle.labels.specs.LabelReading.{Found, absent, found, known, propositionOf, atomBy, atomAt, negated, closing, closed, more, chain}
+use Rattle.labels.specs.LabelReading.{Found, absent, found, known, propositionOf, atomAt, negated, closing, closed, more, chain}
+use Rattle.labels.proofs.LabelSteps.{atom-t, atom-f}
 use Rattle.label_reader.specs.declared.Truth.{Truth}
 use Rattle.label_reader.specs.declared.Truth.the-variants.{Bad, On}
 use Rattle.label_reader.specs.Truths.{answerOf, closingOn, closedOn}
@@ -166,22 +167,13 @@ closed-on s x m j e =
 -- Atoms.
 
 module _ (s : List ℕ) (k j : ℕ) where
-  atom-by : (x y : Bool) → eqb (byteAt s j) 0x74 ≡ x → eqb (byteAt s j) 0x66 ≡ y
-      → atomAt s k j ≡ atomBy x y (propositionOf k (numberAt s j)) (j + 1)
-  unfolding atomAt
-  atom-by x y a b = rw (a, b)
-
   pub atom-true : byteAt s j ≡ 0x74 → On 0xFFFF (j + 1) ≡ answerOf (atomAt s k j)
   unfolding answerOf maskOf
-  atom-true e = sym (ap answerOf (atom-by true _ (eq-eqb (byteAt s j) 0x74 e) refl))
+  atom-true e = sym (ap answerOf (atom-t s k j e))
 
   pub atom-false : byteAt s j ≡ 0x66 → On 0 (j + 1) ≡ answerOf (atomAt s k j)
   unfolding answerOf maskOf
-  atom-false e =
-      sym (ap answerOf (atom-by false true (ne-eqb (byteAt s j) 0x74 (λ h. omega (arith, h, e))) (eq-eqb (byteAt s j) 0x66 e)))
-
-  pub atom-other : (byteAt s j ≡ 0x74 → ⊥) → (byteAt s j ≡ 0x66 → ⊥) → atomAt s k j ≡ propositionOf k (numberAt s j)
-  atom-other a b = atom-by false false (ne-eqb (byteAt s j) 0x74 a) (ne-eqb (byteAt s j) 0x66 b)
+  atom-false e = sym (ap answerOf (atom-f s k j e))
 
 -- Propositions, of a number that the code holds as r.
 

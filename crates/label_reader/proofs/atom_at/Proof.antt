@@ -4,7 +4,8 @@ use native.Mathlib.Omega.{arith}
 use borrow.Author.Needs.{needs}
 use Rattle.tokens.proofs.Runs.{byte-within}
 use Rattle.label_reader.specs.Truths.{answerOf, Forward}
-use Rattle.label_reader.proofs.ReadTruths.{atom-true, atom-false, atom-other}
+use Rattle.label_reader.proofs.ReadTruths.{atom-true, atom-false}
+use Rattle.labels.proofs.LabelSteps.{atom-other}
 use Rattle.label_reader.proofs.atom_at.Statement.{statement}
 use Rattle.label_reader.proofs.atom_at.Tie as tie
 
