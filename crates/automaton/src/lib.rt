@@ -1,4 +1,6 @@
 // A Büchi automaton as a value: equal values are equal automata, since the bits of states and letters that it lacks are zero.
+#![tactic(auto)]
+
 ghost use Rattle.std.specs.Prelude.{◌≡◌};
 ghost use Rattle.automaton.specs.Automata.{header_values};
 
