@@ -1,5 +1,7 @@
 // Sets of states as words of 32 bits, state q at bit q, and relations on the states as rows of such words. A promise on the states below 32
 // is one on every bit of a word.
+#![tactic(auto)]
+
 ghost use Rattle.std.specs.Prelude.{◌≡◌, ◌&&◌, ◌||◌, [], ◌∷◌, ℕ, ◌-◌, ◌<◌, ◌≤◌, eqb, length};
 ghost use Rattle.automaton.specs.Ranges.{some, next_from, total};
 ghost use Rattle.automaton.specs.Sets.{bit, with_bit, member};
