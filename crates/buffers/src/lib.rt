@@ -1,4 +1,6 @@
 // Bytes and texts, written into a lent buffer from a place on.
+#![tactic(auto)]
+
 ghost use Rattle.std.specs.Prelude.{[], ◌∷◌, ◌+◌, ◌<◌, ◌≤◌, length};
 ghost use Rattle.buffers.specs.Buffers.{WrittenAt};
 
