@@ -1,4 +1,6 @@
 // The tokens of a Hanoi text, read at a place: words and marks, numbers of any length, quoted names. White space may stand before each.
+#![tactic(auto)]
+
 ghost use Rattle.std.specs.Prelude.{◌≡◌, true, ℕ, ◌≤◌, ◌+◌, ◌*◌, ◌-◌, min, length, drop};
 ghost use Rattle.tokens.specs.Tokens.{
   white,
