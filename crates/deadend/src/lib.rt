@@ -1,5 +1,7 @@
 // The dead-end test, with sets of states as words: what each state's transitions lead to, what paths of them lead to, the accepting
 // states that lie on a loop, and the reachable states that have no path to one.
+#![tactic(auto)]
+
 ghost use Rattle.std.specs.Prelude.{◌≡◌, false, ◌&&◌, not, ℕ, ◌<◌, ◌≤◌, ltb, length, get_or};
 ghost use Rattle.automaton.specs.Ranges.{some, table};
 ghost use Rattle.automaton.specs.Sets.{bit};
