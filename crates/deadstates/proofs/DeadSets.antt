@@ -50,9 +50,9 @@ module _ (A : Automaton) where
 
     has_dead_lem : T (not (eqb (dead_set A) 0)) ↔ HasDead A
     has_dead_lem = (
-      λ t. let x = some_below (bit (dead_set A)) max_states (subst T (word_has (dead_set A) (dead_set_fits A)) t) in
+      λ t. let x = some_below (bit (dead_set A)) max_states (subst T (word_has (dead_set A) dead_set_fits) t) in
           (x.0, (dead_set_right x.0).0 (T_true _ x.2)),
-      λ d. subst T (sym (word_has (dead_set A) (dead_set_fits A)))
+      λ d. subst T (sym (word_has (dead_set A) dead_set_fits))
           (some_at (bit (dead_set A)) max_states d.0 (dead_below A inside few d.0 d.1) (is_true _ ((dead_set_right d.0).1 d.1))),
     )
 
