@@ -1,5 +1,6 @@
 // The theory of the contain call (docs/reference.md, "Contain"): its checks, answers, table and demands. There is no code here but the types of
 // the answers; the crate `contain` has it.
+#![tactic(auto)]
 
 // What the walk of two automata comes to: the number of vertices, none of which is final; the final vertex's place and its word's length;
 // refusal 10 with the slots; refusal 11 with the length needed.

@@ -1,5 +1,7 @@
 // The index of the listed vertices by classes of equal counters: the class of counters, the left states that are listed with them, and a new
 // slot that joins a class or leads one.
+#![tactic(auto)]
+
 ghost use Rattle.std.specs.Prelude.{◌≡◌, ◌&&◌, not, ℕ, ◌+◌, ◌<◌, ◌≤◌, ◌^◌, ltb, length, get_or};
 ghost use Rattle.automaton.specs.Automata.{max_states};
 ghost use Rattle.automaton.specs.Ranges.{some};

@@ -1,4 +1,6 @@
 // Condition 9 of an entry, condition 15 of a lasso word, and whether an offer is smaller (docs/reference.md, "Verdict" and "Entry, open, offer").
+#![tactic(auto)]
+
 ghost use Rattle.std.specs.Prelude.{◌≡◌, ◌&&◌, leb};
 ghost use Rattle.automaton.specs.Automata.{max_states, whole_of, InRange};
 ghost use Rattle.history.specs.Entries.{max_edition, entry_with, malformed, smaller};

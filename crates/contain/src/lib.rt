@@ -1,4 +1,6 @@
 // The contain call: whether a first automaton is contained in a second at a bound. The crate `answers` says what it answers and leaves.
+#![tactic(auto)]
+
 ghost use Rattle.std.specs.Prelude.{◌≡◌, ◌≤◌};
 ghost use Rattle.automaton.specs.Automata.{whole_of, InRange};
 ghost use Rattle.graph.specs.LagGraph.{max_bound};

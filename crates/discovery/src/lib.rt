@@ -1,5 +1,7 @@
 // Successors discovered: each is listed already, or final, or takes the next slot, or finds none. The left states that are listed with the
 // counters of a class are known as a set, so that only targets that are not listed are gone through.
+#![tactic(auto)]
+
 ghost use Rattle.std.specs.Prelude.{◌≡◌, true, false, ◌&&◌, not, map, ℕ, ◌<◌, ◌≤◌, eqb, length};
 ghost use Rattle.automaton.specs.declared.Automaton.{Automaton};
 ghost use Rattle.automaton.specs.Automata.{max_states};

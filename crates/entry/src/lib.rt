@@ -1,4 +1,6 @@
 // Open, offer and verdict on an entry, whose held transitions are lent. The crate `history` says what they answer and leave.
+#![tactic(auto)]
+
 use history::{EntryHead, OfferAnswer, OpenAnswer};
 
 mod offers;

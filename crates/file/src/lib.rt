@@ -1,4 +1,6 @@
 // The reader of automaton files: the header, and then one record after another up to the end record or the first fault.
+#![tactic(auto)]
+
 ghost use Rattle.std.specs.Prelude.{◌≡◌, replicate};
 ghost use Rattle.automaton.specs.Automata.{whole_of};
 ghost use Rattle.format.specs.File.{read_file};

@@ -1,6 +1,8 @@
 // Reads files and finds their dead states. Each line of standard input gives a file of at most 64 bytes: a name, a colon, and the bytes
 // in hexadecimal. A line is written for each: the name; the refusal number of every truncation, from no bytes to the whole file, a digit
 // each; and where the last is 0 the numbers of states, letters and transitions, and the dead states.
+#![tactic(auto)]
+
 ghost use Rattle.std.specs.Prelude.{◌<◌, length};
 ghost use Rattle.io.specs.Counts.{IsPrefixLen};
 ghost use Rattle.automaton.specs.Automata.{whole_of, InRange};

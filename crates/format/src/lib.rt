@@ -1,5 +1,6 @@
 // The theory of files (docs/reference.md, "The file"): the layout of records, what a file holds, and the faults for which it is refused. There is no
 // code here but the type of a record; the crates `records` and `file` have it.
+#![tactic(auto)]
 
 // A record past the header, as far as its bytes go: refusal 1 or 2; or its fields, and the position after it.
 #[derive(Drop)]

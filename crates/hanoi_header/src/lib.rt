@@ -1,4 +1,6 @@
 // The header of a Hanoi text, item by item. The crate `hanoi` says what an item is.
+#![tactic(auto)]
+
 ghost use Rattle.std.specs.Prelude.{◌≡◌, Bool, ◌&&◌, ℕ, ◌≤◌, ◌<◌, ◌+◌, leb, ltb, length};
 ghost use Rattle.tokens.specs.Places.{Past};
 ghost use Rattle.hanoi.specs.Reading.{

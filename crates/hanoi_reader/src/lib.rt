@@ -1,5 +1,7 @@
 // The reader of Hanoi texts: the header, and then one state or edge after another up to the end or the first fault; and the call that writes the automaton of a
 // text. The crate `hanoi` says what a text describes.
+#![tactic(auto)]
+
 ghost use Rattle.std.specs.Prelude.{◌≡◌, ◌≤◌, ◌^◌, replicate};
 ghost use Rattle.automaton.specs.Automata.{whole_of};
 ghost use Rattle.hanoi.specs.Reading.{read_hanoi};

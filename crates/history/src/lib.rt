@@ -1,5 +1,7 @@
 // The theory of entries (docs/reference.md, "Verdict" and "Entry, open, offer"): entries, the calls on them, their tables, the account of a list of
 // calls and demand 3. There is no code here but the types of entries and answers; the crate `entry` has it.
+#![tactic(auto)]
+
 use automaton::{Automaton, Head};
 
 // An entry: whether it holds an edition, that edition's number and automaton, and how many states the first edition had.

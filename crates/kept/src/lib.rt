@@ -1,5 +1,7 @@
 // Steps that are kept: vertices with the same counters share their steps, so the classes after a step are kept for each letter and for the left
 // targets that accept and those that do not. There are 16 lines of 32 places; a class has the line of its number modulo 16.
+#![tactic(auto)]
+
 ghost use Rattle.std.specs.Prelude.{◌≡◌, ◌+◌, ◌*◌, ◌%◌, ◌<◌, ◌≤◌, length, set};
 ghost use Rattle.relations.specs.Rows.{changed_rows};
 ghost use Rattle.kept.specs.Kept.{lines, line_length, kept_after};

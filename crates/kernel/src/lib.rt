@@ -1,4 +1,6 @@
 // The functions that vendors link: thin, each over the crate that does the work.
+#![tactic(auto)]
+
 ghost use Rattle.std.specs.Prelude.{◌≡◌, true, length};
 ghost use Rattle.fixed_form.specs.Write.{write_of};
 ghost use Rattle.hanoi.specs.Hanoi.{hanoi_of};

@@ -1,5 +1,7 @@
 // The label of a Hanoi edge, read from a place of the text: its truth on letters 0 to 15, a bit for each, and the place behind it. Disjunctions, conjunctions,
 // operands and parentheses call each other, and less of the text is left at each call.
+#![tactic(auto)]
+
 ghost use Rattle.std.specs.Prelude.{◌≡◌, ℕ, ◌<◌, ◌≤◌, ◌+◌, length};
 ghost use Rattle.labels.specs.Labels.{proposition_mask};
 ghost use Rattle.tokens.specs.Tokens.{number_at};

@@ -1,4 +1,6 @@
 // Prints the lines of made-up entries and answers: those of document 01, and those at its edges.
+#![tactic(auto)]
+
 ghost use Rattle.std.specs.Prelude.{◌≤◌, length};
 
 use automaton::Head;

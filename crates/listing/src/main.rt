@@ -1,4 +1,6 @@
 // Opens the file first.ba, offers the file offer.ba to it at the bound that standard input gives as one byte, and prints the line.
+#![tactic(auto)]
+
 ghost use Rattle.io.specs.Counts.{IsPrefixLen};
 
 use libc::{STDIN_FILENO, STDOUT_FILENO};

@@ -1,4 +1,6 @@
 // Prints what `kernel::contain_part` hands back for the document's worked automata: the number, then the part of the word buffer, letter by letter.
+#![tactic(auto)]
+
 use libc::STDOUT_FILENO;
 
 // The worked automata as files.

@@ -1,4 +1,6 @@
 // The number of transitions of an automaton, and whether it is in range.
+#![tactic(auto)]
+
 ghost use Rattle.std.specs.Prelude.{◌≡◌, ◌≤◌};
 ghost use Rattle.automaton.specs.Automata.{whole_of, transition_count, in_range};
 

@@ -1,4 +1,6 @@
 // The records past the header of an automaton file, as far as their bytes go, and the reader that goes from one to the next.
+#![tactic(auto)]
+
 ghost use Rattle.std.specs.Prelude.{◌≡◌};
 ghost use Rattle.format.specs.Records.{record_in};
 

@@ -1,4 +1,6 @@
 // The line that the listing prints, written into a lent buffer.
+#![tactic(auto)]
+
 ghost use Rattle.std.specs.Prelude.{◌≡◌, List, [], ◌++◌, ℕ, ◌+◌, ◌*◌, ◌≤◌, leb, length};
 ghost use Rattle.history.specs.Entries.{entry_with};
 ghost use Rattle.report.specs.Line.{newline, usage_text, long_text, offer_line, refused_line, line_room, Lined};

@@ -1,1 +1,2 @@
 // Runs of Büchi automata: definitions and theorems only.
+#![tactic(auto)]

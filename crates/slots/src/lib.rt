@@ -1,4 +1,6 @@
 // Vertices of the lag-checking graph, and the slots of the work buffer that have them. Only this crate knows a slot's layout.
+#![tactic(auto)]
+
 ghost use Rattle.std.specs.Prelude.{◌≡◌, ◌++◌, ◌<◌, ◌≤◌, length, drop};
 ghost use Rattle.slots.specs.Slots.{slot_count, slot_size, slot_bytes};
 ghost use Rattle.slots.specs.Bytes.{with_slot, vertex_at, letter_at, parent_at, Falls, word_at};

@@ -1,5 +1,7 @@
 // One step of the lag-checking graph's counters: from the counters of a vertex and a letter to the counters of all right states
 // afterwards, and the initial vertex that the first step starts from.
+#![tactic(auto)]
+
 ghost use Rattle.std.specs.Prelude.{◌≡◌, cond, ◌&&◌, not, ◌+◌, ◌<◌, ◌≤◌, max, min, ltb, length, get_or};
 ghost use Rattle.automaton.specs.Automata.{max_states};
 ghost use Rattle.automaton.specs.Ranges.{table};

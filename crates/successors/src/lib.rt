@@ -1,5 +1,7 @@
 // The successors of a vertex on one letter: the targets that are not listed with the class of their side, discovered. The classes after the step
 // are kept, so that a step whose targets are all listed costs a few words.
+#![tactic(auto)]
+
 ghost use Rattle.std.specs.Prelude.{◌≡◌, cond, map, ℕ, ◌+◌, ◌<◌, ◌≤◌, ◌≢◌, eqb, length, get_or};
 ghost use Rattle.automaton.specs.declared.Automaton.{Automaton};
 ghost use Rattle.automaton.specs.Automata.{max_states, max_letters, targets};

@@ -1,4 +1,6 @@
 // Numbers and letters as text in a lent buffer, and the percent of states saved.
+#![tactic(auto)]
+
 mod parts;
 mod saved;
 

@@ -1,5 +1,7 @@
 // Unions of chosen sets from tables (the method of the four Russians): for every four sets, 16 entries have the unions of all choices of
 // them, so the union of the sets that a word chooses takes one entry for every four bits of the word. A set is a word of 64 bits.
+#![tactic(auto)]
+
 ghost use Rattle.std.specs.Prelude.{◌≡◌, ℕ, ◌+◌, ◌*◌, ◌≤◌, length};
 ghost use Rattle.automaton.specs.Sets.{bit};
 ghost use Rattle.unions.specs.Unions.{named, groups_for, doubled, filled};

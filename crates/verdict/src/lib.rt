@@ -1,5 +1,7 @@
 // The verdict on a lasso word, with sets of states as words: the states that the stem leads to, for each state what the loop leads to
 // and what it leads to by way of an accepting state, and what copies of the loop join.
+#![tactic(auto)]
+
 ghost use Rattle.std.specs.Prelude.{◌≡◌, ◌&&◌, ◌||◌, List, [], ◌∷◌, ℕ, ◌+◌, ◌*◌, ◌<◌, ◌≤◌, eqb, ltb, length, get_or};
 ghost use Rattle.automaton.specs.declared.Automaton.{Automaton};
 ghost use Rattle.automaton.specs.Ranges.{some};

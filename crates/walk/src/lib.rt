@@ -1,4 +1,6 @@
 // The walk of the lag-checking graph: the discovery list, its vertices written into the slots of the work buffer.
+#![tactic(auto)]
+
 ghost use Rattle.std.specs.Prelude.{◌≡◌, false, ℕ, ◌<◌, ◌≤◌, length};
 ghost use Rattle.automaton.specs.declared.Automaton.{Automaton};
 ghost use Rattle.automaton.specs.Automata.{max_states, max_letters, whole_of, InRange};

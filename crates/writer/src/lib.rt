@@ -1,5 +1,7 @@
 // The writer of automaton files in the fixed form: the header, accepting states lowest first, transitions by from, letter and to, and the end. The crate
 // `fixed_form` says what it answers and leaves.
+#![tactic(auto)]
+
 ghost use Rattle.std.specs.Prelude.{◌≡◌, ◌≤◌, length};
 ghost use Rattle.automaton.specs.Automata.{whole_of, InRange};
 ghost use Rattle.buffers.specs.Buffers.{WrittenAt};

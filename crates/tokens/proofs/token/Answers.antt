@@ -8,9 +8,9 @@ use Rattle.tokens.proofs.token.Goals as goal
 
 pub returns-then-touches : goal.returns-then-touches
 returns-then-touches c = let s = c.args in record {
-      meaning = token_touches s.word.now s.text.now s.at _ c.skip-j.ensures.0 (sym c.touches.ensures ∙ c.if-touches.true);
-      within = tt;
-    }
+  meaning = token_touches s.word.now s.text.now s.at _ c.skip-j.ensures.0 (sym c.touches.ensures ∙ c.if-touches.true);
+  within = tt;
+}
 
 pub returns-then-same_at : goal.returns-then-same_at
 returns-then-same_at c = let s = c.args in
@@ -22,7 +22,7 @@ returns-then-same_at c = let s = c.args in
 
 pub returns : goal.returns
 returns c = let s = c.args in record {
-      meaning = token_other s.word.now s.text.now s.at _ c.skip-j.ensures.0
-          (sym c.same_at.ensures ∙ c.if-same_at.false);
-      within = tt;
-    }
+  meaning = token_other s.word.now s.text.now s.at _ c.skip-j.ensures.0
+      (sym c.same_at.ensures ∙ c.if-same_at.false);
+  within = tt;
+}
