@@ -1,4 +1,4 @@
-// The functions that vendors link: thin, each over the crate that does the work.
+// The functions that vendors link: thin, each over the crate that does the work. The crate `kernel_c` exports them to C.
 #![tactic(auto)]
 
 ghost use Rattle.std.specs.Prelude.{◌≡◌, true, length};
@@ -34,8 +34,7 @@ use history::{EntryHead, OpenAnswer};
 
 // Whether the first file's automaton is contained in the second's at the bound, as one number: kind + 2^8 count + 2^24 word
 // length. The walk's slots stand in work; the word of "differs" stands in front in word.
-#[unsafe(no_mangle)]
-pub extern "C" fn contain(
+pub fn contain(
     first: &[u8],
     second: &[u8],
     bound: u64,
@@ -109,8 +108,7 @@ fn is_opened(answer: OpenAnswer) -> bool
 }
 
 // Opens the empty entry in these bytes with the file's automaton, as one number: 0 opened, 100 plus a refusal's number.
-#[unsafe(no_mangle)]
-pub extern "C" fn entry_open(entry: &mut [u8], file: &[u8]) -> u64
+pub fn entry_open(entry: &mut [u8], file: &[u8]) -> u64
     ensures number { result ≡ open_bytes_number entry.old file.now }
     ensures bytes { entry.new ≡ open_bytes entry.old file.now }
     ensures demand1 { EntryOpenDemand1 entry.old file.now }
@@ -128,8 +126,7 @@ pub extern "C" fn entry_open(entry: &mut [u8], file: &[u8]) -> u64
 
 // Offers the file's automaton as the next edition of the entry in these bytes, as one number: kind + 2^8 forward count + 2^24 back
 // count + 2^40 word length + 2^56 walk. The walks' slots stand in work; the word of forward or back stands in front in word.
-#[unsafe(no_mangle)]
-pub extern "C" fn entry_offer(
+pub fn entry_offer(
     entry: &mut [u8],
     file: &[u8],
     bound: u64,
@@ -155,8 +152,7 @@ pub extern "C" fn entry_offer(
 
 // Whether the automaton of the entry in these bytes accepts the lasso word of the stem and the loop `cycle`, as one number: 0 no,
 // 1 yes, 100 plus a refusal's number.
-#[unsafe(no_mangle)]
-pub extern "C" fn entry_verdict(entry: &[u8], stem: &[u8], cycle: &[u8]) -> u64
+pub fn entry_verdict(entry: &[u8], stem: &[u8], cycle: &[u8]) -> u64
     ensures number { result ≡ verdict_bytes_number entry.now stem.now cycle.now }
     ensures demand1 { EntryVerdictDemand1 entry.now stem.now cycle.now }
 {
@@ -170,8 +166,7 @@ pub extern "C" fn entry_verdict(entry: &[u8], stem: &[u8], cycle: &[u8]) -> u64
 
 // Writes the file's automaton in the fixed form to the front of out, as one number: 256 times the length, 100 plus a refusal's number, or 116
 // plus 256 times the length needed.
-#[unsafe(no_mangle)]
-pub extern "C" fn file_write(file: &[u8], out: &mut [u8]) -> u64
+pub fn file_write(file: &[u8], out: &mut [u8]) -> u64
     ensures number { result ≡ write_number (write_of file.now out.old).answer }
     ensures out { out.new ≡ (write_of file.now out.old).out }
     ensures demand1 { FileWriteDemand1 file.now out.old }
@@ -180,8 +175,7 @@ pub extern "C" fn file_write(file: &[u8], out: &mut [u8]) -> u64
 }
 
 // Writes the automaton of a Hanoi text in the fixed form to the front of out, with a number as that of file_write: the refusals of a text are 3, 4, 17 and 18.
-#[unsafe(no_mangle)]
-pub extern "C" fn hanoi_write(text: &[u8], out: &mut [u8]) -> u64
+pub fn hanoi_write(text: &[u8], out: &mut [u8]) -> u64
     ensures number { result ≡ write_number (hanoi_of text.now out.old).answer }
     ensures out { out.new ≡ (hanoi_of text.now out.old).out }
     ensures demand1 { HanoiWriteDemand1 text.now out.old }
