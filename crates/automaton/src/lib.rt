@@ -27,7 +27,7 @@ pub struct Automaton {
 }
 
 // An automaton without its transitions, which are lent beside it.
-#[derive(Drop)]
+#[derive(Clone, Copy)]
 pub struct Head {
     pub states: usize,
     pub letters: usize,

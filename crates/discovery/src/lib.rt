@@ -18,7 +18,7 @@ use slots::Vertex;
 
 // How the discovery list stands: no final vertex among the vertices listed, with their number; the place of the final vertex
 // that ends it, with the letter and the place of the parent by which it was found; a vertex found no slot, with the slots.
-#[derive(Drop)]
+#[derive(Clone, Copy)]
 pub enum Walked {
     Going(usize),
     Ended(usize, u8, usize),
@@ -26,7 +26,7 @@ pub enum Walked {
 }
 
 // Keys and classes of the counters after a step: where the left target accepts, and where it does not.
-#[derive(Drop)]
+#[derive(Clone, Copy)]
 pub struct Sides {
     pub lowkey: usize,
     pub lowclass: usize,

@@ -12,14 +12,14 @@ pub use opens::open_entry;
 pub use verdicts::verdict;
 
 // What open gives: its answer, and the entry afterwards but for the transitions, which stand where they were lent.
-#[derive(Drop)]
+#[derive(Clone, Copy)]
 pub struct OpenResult {
     pub answer: OpenAnswer,
     pub entry: EntryHead,
 }
 
 // What offer gives: its answer, and the entry afterwards but for the transitions, which stand where they were lent.
-#[derive(Drop)]
+#[derive(Clone, Copy)]
 pub struct OfferResult {
     pub answer: OfferAnswer,
     pub entry: EntryHead,

@@ -12,14 +12,14 @@ mod first;
 mod taking;
 
 // What reading gives: the refusal's number, or 0, and the head to the transitions that were lent.
-#[derive(Drop)]
+#[derive(Clone, Copy)]
 pub struct Reading {
     pub refusal: usize,
     pub head: Head,
 }
 
 // A header's values.
-#[derive(Drop)]
+#[derive(Clone, Copy)]
 pub struct Header {
     pub states: usize,
     pub letters: usize,
@@ -27,14 +27,14 @@ pub struct Header {
 }
 
 // What the first record comes to: a refusal, or the header.
-#[derive(Drop)]
+#[derive(Clone, Copy)]
 pub enum Start {
     NoHeader(usize),
     Begins(Header),
 }
 
 // What a record does to the reading: it is refused, it ends with the whole automaton, or it goes on at a position.
-#[derive(Drop)]
+#[derive(Clone, Copy)]
 pub enum Progress {
     Refused(usize),
     Whole,

@@ -3,7 +3,7 @@
 #![tactic(auto)]
 
 // What a call that writes a file answers: the length written; the refusal of what it was to write; refusal 16 with the length needed.
-#[derive(Drop)]
+#[derive(Clone, Copy)]
 pub enum WriteAnswer {
     Wrote(usize),
     Refused(usize),

@@ -3,7 +3,7 @@
 #![tactic(auto)]
 
 // A record past the header, as far as its bytes go: refusal 1 or 2; or its fields, and the position after it.
-#[derive(Drop)]
+#[derive(Clone, Copy)]
 pub enum Record {
     Fault(usize),
     Accepting {

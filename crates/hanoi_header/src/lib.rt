@@ -24,7 +24,7 @@ ghost use Rattle.hanoi_header.specs.Headers.{start_step, PastHeader};
 use tokens::{Numeral, Went, name_at, number_at, then_token, token};
 
 // A header's values.
-#[derive(Drop)]
+#[derive(Clone, Copy)]
 pub struct Header {
     pub states: usize,
     pub start: usize,
@@ -32,14 +32,14 @@ pub struct Header {
 }
 
 // What an item with a number comes to: a refusal, or the number and the place behind it.
-#[derive(Drop)]
+#[derive(Clone, Copy)]
 pub enum Item {
     Refused(usize),
     Value(usize, usize),
 }
 
 // What the header comes to: a refusal, or its values and the place behind `--BODY--`.
-#[derive(Drop)]
+#[derive(Clone, Copy)]
 pub enum Start {
     NoHeader(usize),
     Begins(Header, usize),

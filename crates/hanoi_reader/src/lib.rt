@@ -17,7 +17,7 @@ use hanoi_header::{Header, Start};
 mod parts;
 
 // What stands at a place of the body: a fault, the end, or a state or edge, with the state that the next edge belongs to and the place behind.
-#[derive(Drop)]
+#[derive(Clone, Copy)]
 pub enum Progress {
     Refused(usize),
     Whole,

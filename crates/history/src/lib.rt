@@ -5,7 +5,7 @@
 use automaton::{Automaton, Head};
 
 // An entry: whether it holds an edition, that edition's number and automaton, and how many states the first edition had.
-#[derive(Drop)]
+#[derive(Clone, Copy)]
 pub struct Entry {
     pub filled: bool,
     pub edition: usize,
@@ -14,7 +14,7 @@ pub struct Entry {
 }
 
 // An entry without the transitions of its automaton, which are lent beside it.
-#[derive(Drop)]
+#[derive(Clone, Copy)]
 pub struct EntryHead {
     pub filled: bool,
     pub edition: usize,
@@ -23,7 +23,7 @@ pub struct EntryHead {
 }
 
 // What open answers: opened, or a refusal's number.
-#[derive(Drop)]
+#[derive(Clone, Copy)]
 pub enum OpenAnswer {
     Opened,
     Refused(usize),
@@ -32,7 +32,7 @@ pub enum OpenAnswer {
 // What offer answers: taken with the forward and the back count; forward with its count and the word's length; back with both
 // counts and the word's length; a refusal's number; 10 with the walk, 1 forward or 2 back, and the slots; 11 with the walk and
 // the length needed.
-#[derive(Drop)]
+#[derive(Clone, Copy)]
 pub enum OfferAnswer {
     Taken(usize, usize),
     Forward(usize, usize),
@@ -43,7 +43,7 @@ pub enum OfferAnswer {
 }
 
 // What verdict answers: accepted, not accepted, or a refusal's number.
-#[derive(Drop)]
+#[derive(Clone, Copy)]
 pub enum VerdictAnswer {
     Yes,
     No,

@@ -11,7 +11,7 @@ ghost use Rattle.label_reader.specs.Truths.{answer_of, closed_on, Forward};
 use tokens::{Numeral, byte_at, number_at, skip};
 
 // What stands at a place: no label, or its truth and the place behind it.
-#[derive(Drop)]
+#[derive(Clone, Copy)]
 pub enum Truth {
     Bad,
     On(usize, usize),

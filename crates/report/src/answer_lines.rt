@@ -11,7 +11,7 @@ use history::{Entry, OfferAnswer};
 use text::{percent_saved, put_decimal, put_field, put_letters};
 
 // What the line shows of an entry: its edition number, the held states and the states of its first edition.
-#[derive(Drop)]
+#[derive(Clone, Copy)]
 pub struct Summary {
     pub edition: usize,
     pub states: usize,

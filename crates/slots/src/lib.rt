@@ -19,7 +19,7 @@ pub const NO_LETTER: u8 = 255;
 pub const NO_PARENT: usize = 65535;
 
 // A left state, and a counter for each right state that there can be.
-#[derive(Drop)]
+#[derive(Clone, Copy)]
 pub struct Vertex {
     pub left: u8,
     pub counters: [u8; 32],

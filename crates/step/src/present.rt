@@ -4,7 +4,7 @@ ghost use Rattle.automaton.specs.Automata.{max_states};
 ghost use Rattle.step.specs.Steps.{PresentOf, places_after};
 
 // The first `count` places hold the states, lowest first; the places after them are room to work in.
-#[derive(Drop)]
+#[derive(Clone, Copy)]
 pub struct Present {
     pub count: usize,
     pub places: [u8; 32],

@@ -20,7 +20,7 @@ use discovery::{Sides, Walked};
 
 // What a walk needs of the two automata besides the arrays that are lent: the number of letters, the right one's number of states, and the
 // accepting states of the left one as a set in a word.
-#[derive(Drop)]
+#[derive(Clone, Copy)]
 pub struct Rules {
     pub letters: usize,
     pub states: usize,

@@ -3,7 +3,7 @@ ghost use Rattle.std.specs.Prelude.{◌≡◌, ◌+◌, ◌*◌, ◌<◌, ◌≤
 ghost use Rattle.text.specs.Text.{percent_saved};
 
 // A number divided by the first states: the quotient, in percent, and the rest.
-#[derive(Drop)]
+#[derive(Clone, Copy)]
 struct Share {
     percent: usize,
     rest: usize,

@@ -18,14 +18,14 @@ ghost use Rattle.tokens.specs.Tokens.{
 ghost use Rattle.tokens.specs.Places.{token_at, name_at, goes_on, capped, Past, PastNumber};
 
 // Where the reading goes on: nowhere, since what was looked for does not stand there, or behind it.
-#[derive(Drop)]
+#[derive(Clone, Copy)]
 pub enum Went {
     Nowhere,
     Behind(usize),
 }
 
 // A number at a place: none, or its value, 1,000 where it is that or more, and the place behind it.
-#[derive(Drop)]
+#[derive(Clone, Copy)]
 pub enum Numeral {
     Missing,
     Value(usize, usize),
