@@ -17,7 +17,6 @@ use Rattle.tokens.proofs.Runs.{skip_end, byte_past}
 use Rattle.labels.specs.Labels.{Label, proposition_mask, mask_of}
 use Rattle.labels.specs.LabelReading.{Found, absent, found, known, proposition_of, atom_at, negated, closing, closed, more, chain}
 use Rattle.labels.proofs.LabelSteps.{atom_t, atom_f}
-use Rattle.label_reader.specs.declared.Truth.{Truth}
 use Rattle.label_reader.specs.declared.Truth.TheVariants.{Bad, On}
 use Rattle.label_reader.specs.Truths.{answer_of, closing_on, closed_on}
 

@@ -3,8 +3,7 @@ use mathlib.Core.Path.{◌≡◌, refl, ap, sym, ◌∙◌}
 use Prim.Native.Nat.{ℕ, zero, suc, ◌<◌}
 use native.Mathlib.Omega.{arith}
 use Rattle.labels.specs.Labels.{proposition_mask}
-use Rattle.label_reader.proofs.proposition_mask.Statement.{statement}
-use Rattle.label_reader.proofs.proposition_mask.Tie as tie
+use Rattle.label_reader.proofs.proposition_mask.Goals as goal
 
 at_number : (p q m : ℕ) → p ≡ q → proposition_mask q ≡ m → m < 65536 → (m ≡ proposition_mask p) × (m < 65536)
 at_number p q m e d h = (sym (ap proposition_mask e ∙ d), h)
@@ -16,20 +15,17 @@ other (suc zero) a b d = absurd (b refl)
 other (suc (suc zero)) a b d = absurd (d refl)
 other (suc (suc (suc p))) a b d = refl
 
-returns : tie.Need-returns
+pub returns-in-0 : goal.returns-in-0
 unfolding proposition_mask
-returns c = at_number _ 0 _ c.match.keys1 refl (omega arith)
+returns-in-0 c = at_number _ 0 _ c.in-0.is refl (omega arith)
 
-returns_2 : tie.Need-returns-2
+pub returns-in-1 : goal.returns-in-1
 unfolding proposition_mask
-returns_2 c = at_number _ 1 _ c.match.keys2 refl (omega arith)
+returns-in-1 c = at_number _ 1 _ c.in-1.is refl (omega arith)
 
-returns_3 : tie.Need-returns-3
+pub returns-in-2 : goal.returns-in-2
 unfolding proposition_mask
-returns_3 c = at_number _ 2 _ c.match.keys3 refl (omega arith)
+returns-in-2 c = at_number _ 2 _ c.in-2.is refl (omega arith)
 
-returns_4 : tie.Need-returns-4
-returns_4 c = (other _ c.match.rest.0.0.1 c.match.rest.0.1 c.match.rest.1, omega arith)
-
-pub proposition_mask_spec : {M : Type 1} → statement M
-proposition_mask_spec = tie.close (tie.spec returns returns_2 returns_3 returns_4)
+pub returns-in_default : goal.returns-in_default
+returns-in_default c = (other c.args.p (omega arith) (omega arith) (omega arith), omega arith)
