@@ -1,3 +1,2 @@
 -- Laws of the records past the header.
 mod RecordCases
-mod Readers
