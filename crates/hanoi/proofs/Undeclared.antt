@@ -11,8 +11,8 @@ use Rattle.automaton.specs.declared.Automaton.{Automaton}
 use Rattle.automaton.specs.Automata.{accepts, transition}
 use Rattle.automaton.proofs.Booleans.{not_T_false}
 use Rattle.labels.specs.Labels.{Label}
-use Rattle.hanoi.specs.Descriptions.{Part, declared, edge, Description, extended}
-use Rattle.hanoi.specs.Grammar.{Latest, of_state, of_edge, Declares, declares, declares_before, IsPart, state_part, edge_part, IsBody, ends, part, IsHeader, header_stands, IsFile, file}
+use Rattle.hanoi.specs.Descriptions.{Part, declared, edge, Description}
+use Rattle.hanoi.specs.Grammar.{Latest, of_state, of_edge, Declares, declares, declares_before, IsPart, state_part, edge_part, IsBody, ends, part, header_stands, IsFile, file}
 use Rattle.hanoi.specs.Meaning.{IsDescribed}
 
 -- a declaration among the parts

@@ -32,13 +32,13 @@ header_well_formed (header_stands h a x e) = subst WellFormed (sym e) (headed_we
 -- The parts.
 
 -- the state that an edge belongs to is one of the description's states
-latest_below : {q n k : ℕ} {xs : List Part} → Latest q xs → ((x : Part) → Memᴰ x xs → PartWithin n k x) → q < n
-latest_below (of_state {b = b}) h = h (declared _ b) (Memᴰ.head refl)
-latest_below (of_edge {L = L} {r = r}) h = (h (edge _ L r) (Memᴰ.head refl)).0
+latest_below : {q n : ℕ} {xs : List Part} (k : ℕ) → Latest q xs → ((x : Part) → Memᴰ x xs → PartWithin n k x) → q < n
+latest_below k (of_state {b = b}) h = h (declared _ b) (Memᴰ.head refl)
+latest_below k (of_edge {L = L} {r = r}) h = (h (edge _ L r) (Memᴰ.head refl)).0
 
 part_within : {s : List ℕ} {D : Description} {i : ℕ} {x : Part} {j : ℕ} → WellFormed D → IsPart s D i x j → PartWithin D.states D.propositions x
 part_within f (state_part x h d m) = h
-part_within f (edge_part e l d x h) = (latest_below l f.within, disjunction_below d, h)
+part_within f (edge_part e l d x h) = (latest_below _ l f.within, disjunction_below d, h)
 
 part_well_formed : {s : List ℕ} {D : Description} {i : ℕ} {x : Part} {j : ℕ} → WellFormed D → IsPart s D i x j → WellFormed (extended x D)
 part_well_formed {D = D} f p =

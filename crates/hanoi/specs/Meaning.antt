@@ -6,7 +6,7 @@
 --   WellFormed D       the numbers of D are in their ranges, as those of every text that is read are
 -- Shown by `hanoi_describes`: of a file of the grammar, `automaton_of D` is the automaton of D; by `described_only`: there is no other; by `undeclared_bare`: a
 -- state that is not declared does not accept, and has no transitions. Assumes nothing.
-use Rattle.std.specs.Prelude.{◌≡◌, Bool, true, false, ◌↔◌, ℕ, zero, suc, ◌^◌, ◌≤◌, ◌<◌, T}
+use Rattle.std.specs.Prelude.{◌≡◌, true, false, ◌↔◌, ℕ, zero, suc, ◌^◌, ◌≤◌, ◌<◌, T}
 use mathlib.Core.List.{List, [], ◌∷◌, Memᴰ}
 use Rattle.automaton.specs.declared.Automaton.{Automaton}
 use Rattle.automaton.specs.Sets.{Bytes}

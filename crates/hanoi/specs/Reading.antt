@@ -13,8 +13,8 @@
 -- when its first fault, by `Faults`, is n. Assumes nothing.
 use Rattle.std.specs.Prelude.{Bool, true, false, ◌&&◌, not, List, [], ◌∷◌, ℕ, zero, suc, ◌+◌, eqb, leb, ltb, length, get_or, drop}
 use Rattle.automaton.specs.Automata.{max_states}
-use Rattle.tokens.specs.Tokens.{skip, stands, behind, Number, none, number, number_at, name_bytes}
-use Rattle.labels.specs.LabelReading.{Found, absent, found, label_at}
+use Rattle.tokens.specs.Tokens.{skip, stands, behind, none, number, number_at, name_bytes}
+use Rattle.labels.specs.LabelReading.{absent, found, label_at}
 use Rattle.hanoi.specs.Words.{HOA, v1, States, Start, AP, quote, acc_name, Buchi, Acceptance, one_word, Inf, left, zero_word, right, BODY, END, State, left_brace, right_brace, left_bracket, right_bracket}
 use Rattle.hanoi.specs.Descriptions.{max_propositions, Part, declared, edge, Description, headed, extended}
 
