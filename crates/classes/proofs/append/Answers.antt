@@ -12,8 +12,7 @@ use Rattle.slots.proofs.SlotLayout.{slot_fits}
 use Rattle.classes.specs.Classes.{class_of, key_of, keys, Classes, heads_after, nexts_after, listed_after}
 use Rattle.classes.proofs.Leaders.{class_le}
 use Rattle.classes.proofs.Appended.{classes_append}
-use Rattle.classes.proofs.append.Statement.{statement}
-use Rattle.classes.proofs.append.Tie as tie
+use Rattle.classes.proofs.append.Goals as goal
 
 -- the index of the bytes as they are written and joined
 module _ (work heads nexts listed : List ℕ) (n : ℕ) (v : Vertex) (a p k c : ℕ) (room : n < slot_count (length work))
@@ -29,15 +28,8 @@ module _ (work heads nexts listed : List ℕ) (n : ℕ) (v : Vertex) (a p k c : 
             (classes_append work n v a p (slot_fits n (length work) room) long heads nexts listed k c I key small (omega arith) class),
       )
 
-write_slot_requires : tie.Need-write-slot-requires
-write_slot_requires c κs = search rules
-
-wide_requires : tie.Need-wide-requires
-wide_requires c κs = search rules
-
-join_requires : tie.Need-join-requires
-join_requires c κs =
-    let b = c.before.before.before.before.before.before.before.before.before.before.before.before in
+pub join-requires : goal.join-requires
+join-requires c = let b = c in
     let i = b.requires.5 in
     let l = class_le b.args.work.now b.args.v.counters b.args.n in (
       omega (arith, i.chained.heads_long),
@@ -48,38 +40,12 @@ join_requires c κs =
       omega arith,
     )
 
-same_length : tie.Need-same-length
-same_length c = search rules
-
-same_length_2 : tie.Need-same-length-2
-same_length_2 c = search rules
-
-same_length_3 : tie.Need-same-length-3
-same_length_3 c = search rules
-
-same_length_4 : tie.Need-same-length-4
-same_length_4 c = search rules
-
-returns : tie.Need-returns
-returns c =
-    let b = c.before.before.before.before.before.before.before.before.before.before.before.before.before.before.before.before.before.before.before in
+pub returns : goal.returns
+returns c = let b = c in
     let a = b.args in
-    let w = c.before.before.before.before.before.before.before.before.before.before.before.before.before.write-slot.ensures in
-    let j = c.before.before.before.before.before.before.join.ensures in
-    let x = c.before.before.before.before.before.before.before.wide.ensures.0 in
+    let w = c.write_slot.ensures in
+    let j = c.join.ensures in
+    let x = c.wide.ensures.0 in
     let r = written_and_joined a.work.now a.heads.now a.nexts.now a.listed.now a.n a.v a.letter a.parent a.key
-    a.class b.requires.0 (search rules) b.requires.3 b.requires.4 b.requires.5 b.requires.6 _ _ _ _ _ x w j.0 j.1.0 j.1.1 in
-    (w, (j.0, (j.1.0, (r.0, r.1))))
-
-pub append_spec : {M : Type 1} → statement M
-append_spec =
-    tie.close
-    (tie.spec
-    write_slot_requires
-    wide_requires
-    join_requires
-    same_length
-    same_length_2
-    same_length_3
-    same_length_4
-    returns)
+    a.class b.requires.0 (search rules) b.requires.3 b.requires.4 b.requires.5 b.requires.6 _ _ _ _ _ x w j.heads j.nexts j.listed in
+    record { bytes = w; heads = j.heads; nexts = j.nexts; listed = r.0; index = r.1 }
