@@ -3,82 +3,84 @@
 // each; and where the last is 0 the numbers of states, letters and transitions, and the dead states.
 #![tactic(auto)]
 
-ghost use Rattle.std.specs.Prelude.{◌<◌, length};
-ghost use Rattle.io.specs.Counts.{IsPrefixLen};
+ghost use Rattle.std.specs.Prelude.{◌<◌, ◌≤◌, length, IfOk};
 ghost use Rattle.automaton.specs.Automata.{whole_of, InRange};
 
 use automaton::{Head, MAX_STATES};
-use bytes::scan::find;
-use libc::{STDIN_FILENO, STDOUT_FILENO};
+use input::read_full;
+use std::io;
 
 // Writes a number after its label.
-fn show_number(label: &[u8], n: usize) {
-    io::write_all(STDOUT_FILENO, label);
-    io::print_decimal(STDOUT_FILENO, n as u64);
+fn show_number(rt: &impl Print, label: &[u8], n: usize) -> io::Result<()> {
+    rt.write_all(label)?;
+    rt.print(n)
 }
 
 // Writes the numbers of the states whose flags are set.
-fn show_states(flags: [bool; MAX_STATES]) {
+fn show_states(rt: &impl Print, flags: [bool; MAX_STATES]) -> io::Result<()> {
     let mut q: usize = 0;
     while q < MAX_STATES {
         if flags[q] {
-            show_number(b" ", q);
+            show_number(rt, b" ", q)?;
         }
         q += 1;
     }
+    Ok(())
 }
 
 // Writes whether an automaton has a dead state, and its dead states.
-fn show_dead(head: Head, transitions: &[u8; 2048])
+fn show_dead(rt: &impl Print, head: Head, transitions: &[u8; 2048]) -> io::Result<()>
     requires { InRange (whole_of head transitions.now) }
 {
     if deadend::has_dead(head, transitions) {
-        io::write_all(STDOUT_FILENO, b" dead");
+        rt.write_all(b" dead")?;
     } else {
-        io::write_all(STDOUT_FILENO, b" none dead");
+        rt.write_all(b" none dead")?;
     }
-    show_states(deadend::dead_states(head, transitions));
+    show_states(rt, deadend::dead_states(head, transitions))
 }
 
 // Writes the numbers and the dead states of an automaton.
-fn show_automaton(head: Head, transitions: &[u8; 2048])
+fn show_automaton(rt: &impl Print, head: Head, transitions: &[u8; 2048]) -> io::Result<()>
     requires { InRange (whole_of head transitions.now) }
 {
-    show_number(b" states ", head.states);
-    show_number(b" letters ", head.letters);
+    show_number(rt, b" states ", head.states)?;
+    show_number(rt, b" letters ", head.letters)?;
     show_number(
+        rt,
         b" transitions ",
         range_test::transition_count(head, transitions),
-    );
-    show_dead(head, transitions);
+    )?;
+    show_dead(rt, head, transitions)
 }
 
 // Writes the refusal number of a file.
-fn show_refusal(file: &[u8]) {
+fn show_refusal(rt: &impl Print, file: &[u8]) -> io::Result<()> {
     let mut transitions = [0u8; 2048];
     let reading = file::read(file, &mut transitions);
-    io::print_decimal(STDOUT_FILENO, reading.refusal as u64);
+    rt.print(reading.refusal)
 }
 
 // Writes the refusal number of each truncation of a file, the shortest first.
-fn show_truncations(file: &[u8]) {
+fn show_truncations(rt: &impl Print, file: &[u8]) -> io::Result<()> {
     let mut n: usize = 0;
     while n < file.len() {
-        show_refusal(&file[..n]);
+        show_refusal(rt, &file[..n])?;
         n += 1;
     }
+    Ok(())
 }
 
 // Writes what reading each truncation of a file gives, and then what reading all of it gives.
-fn show_file(file: &[u8]) {
-    show_truncations(file);
+fn show_file(rt: &impl Print, file: &[u8]) -> io::Result<()> {
+    show_truncations(rt, file)?;
     let mut transitions = [0u8; 2048];
     let reading = file::read(file, &mut transitions);
-    io::print_decimal(STDOUT_FILENO, reading.refusal as u64);
+    rt.print(reading.refusal)?;
     if reading.refusal == 0 {
-        show_automaton(reading.head, &transitions);
+        show_automaton(rt, reading.head, &transitions)?;
     }
-    io::write_all(STDOUT_FILENO, b"\n");
+    rt.write_all(b"\n")
 }
 
 // The number of a hexadecimal digit.
@@ -90,7 +92,7 @@ fn digit(c: u8) -> u8
 
 // Puts the bytes that a text gives, each in two digits after a colon or a space, at the front of a file, and answers how many they are.
 fn put_bytes(text: &[u8], file: &mut [u8]) -> usize
-    ensures { IsPrefixLen result file.new }
+    ensures { result ≤ length file.new }
 {
     let mut n: usize = 0;
     while n < file.len() {
@@ -103,31 +105,47 @@ fn put_bytes(text: &[u8], file: &mut [u8]) -> usize
     n
 }
 
+// The first place of the byte from one place on and before another, which is answered where it has none.
+fn find(text: &[u8], from: usize, end: usize, wanted: u8) -> usize
+    requires { (from ≤ end) × (end ≤ length text.now) }
+    ensures { (from ≤ result) × (result ≤ end) }
+{
+    let mut at = from;
+    while at < end {
+        if text[at] == wanted {
+            return at;
+        }
+        at += 1;
+    }
+    end
+}
+
 // Writes the line of the file that the text gives from a place on, and answers where the next line begins.
-fn show_line(text: &[u8], at: usize) -> usize
+fn show_line(rt: &impl Print, text: &[u8], at: usize) -> io::Result<usize>
     requires { at < length text.now }
-    ensures { at < result }
+    ensures { IfOk result (λ next. at < next) }
 {
     let end = find(text, at, text.len(), b'\n');
     let colon = find(text, at, end, b':');
-    io::write_all(STDOUT_FILENO, &text[at..colon]);
-    io::write_all(STDOUT_FILENO, b": ");
+    rt.write_all(&text[at..colon])?;
+    rt.write_all(b": ")?;
     let mut file = [0u8; 64];
     let n = put_bytes(&text[colon..end], &mut file);
-    show_file(&file[..n]);
-    if end < text.len() { end + 1 } else { end }
+    show_file(rt, &file[..n])?;
+    Ok(if end < text.len() { end + 1 } else { end })
 }
 
 // Writes the lines of the files that the text gives.
-fn show_lines(text: &[u8]) {
+fn show_lines(rt: &impl Print, text: &[u8]) -> io::Result<()> {
     let mut at: usize = 0;
     while at < text.len() {
-        at = show_line(text, at);
+        at = show_line(rt, text, at)?;
     }
+    Ok(())
 }
 
-fn main() {
-    let mut text = io::large_buffer();
-    let n = io::read_full(STDIN_FILENO, &mut text);
-    show_lines(&text[..n]);
+fn main(rt: HostRuntime) -> io::Result<()> {
+    let mut text = [0u8; 65536];
+    let n = read_full(&mut rt.stdin(), &mut text);
+    show_lines(&rt, &text[..n])
 }
