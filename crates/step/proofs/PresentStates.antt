@@ -64,8 +64,11 @@ module _ (f : ℕ → Bool) where
 
 member_place : {a : ℕ} (l : List ℕ) → Memᴰ a l → (j : ℕ) × (j < length l) × (get_or l j 0 ≡ a)
 member_place [] m = absurd (Memᴰ.not-nil m)
-member_place (x ∷ l) m =
-    ⊎_elim (λ e. (0, omega arith, sym e)) (λ m'. let r = member_place l m' in (suc r.0, omega (arith, r.1), r.2))
+member_place {a} (x ∷ l) m =
+    ⊎_elim (λ (e : a ≡ x). (0, omega arith, sym e))
+    (λ (m' : Memᴰ a l).
+    let r : (j : ℕ) × (j < length l) × (get_or l j 0 ≡ a) = member_place l m' in
+    (suc r.0, omega (arith, r.1), r.2))
     (Memᴰ.cases_cons m)
 
 -- What the list of the states present says.
