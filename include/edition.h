@@ -1,6 +1,6 @@
 /* The Büchi edition checker: the six functions of libkernel.a, and what takes their numbers apart.
 
-   Link with target/staticlib/libkernel.a, which `rt staticlib kernel` writes. It needs memcpy, memmove, memset and memcmp at most.
+   Link with target/staticlib/libkernel.a, which `tools/archive` writes. It needs memcpy, memmove, memset and memcmp at most.
 
    Arguments. A buffer is a pointer and its length in bytes; NULL goes with length 0. Any contents are answered, and any length below
    2^63: the proofs are about these, and no object in memory is longer. A buffer that a function writes (entry of open and offer,

@@ -17,7 +17,7 @@ fn main() {
             println!("cargo::rustc-link-lib=static=kernel");
         }
         Err(_) => println!(
-            "cargo::error=there is no {}: run `rt staticlib kernel` in the repository's folder, or set EDITION_ARCHIVE_DIR \
+            "cargo::error=there is no {}: run `tools/archive` in the repository's folder, or set EDITION_ARCHIVE_DIR \
              to the folder that has libkernel.a",
             archive.display()
         ),

@@ -1,4 +1,4 @@
-//! The proved Büchi edition checker for Rust callers: safe functions over the archive that `rt staticlib kernel` writes.
+//! The proved Büchi edition checker for Rust callers: safe functions over the archive that `tools/archive` writes.
 //!
 //! Every answer is the archive's. This crate passes buffers on and takes the numbers apart; it decides nothing itself.
 //!
