@@ -1,27 +1,24 @@
 -- The header item by item, from what the calls answered: each law puts together those of the tokens and of the number. Assumes nothing.
-use mathlib.Core.Path.{◌≡◌, refl, sym, ap, subst, ◌∙◌}
+use mathlib.Core.Path.{◌≡◌, refl, sym, ap, ◌∙◌}
 use mathlib.Core.Bool.{Bool, true, false, ◌&&◌}
 use mathlib.Core.List.{List}
-use Prim.Native.Nat.{ℕ, suc, ◌+◌, ◌≤◌, ◌<◌}
+use Prim.Native.Nat.{ℕ, suc, ◌≤◌, ◌<◌}
 use native.Mathlib.Omega.{arith}
 use lib.Dec.{leb, ltb}
 use lib.ListN.{length}
 use borrow.Author.Tests.{leb-true, leb-false, le-leb, lt-ltb, le-ltb}
 use Rattle.tokens.specs.declared.Went.{Went}
 use Rattle.tokens.specs.declared.Went.TheVariants.{Nowhere, Behind}
-use Rattle.tokens.specs.Places.{token_at, goes_on, Past}
-use Rattle.tokens.proofs.Places.{past_behind}
-use Rattle.hanoi.specs.Words.{HOA, v1, States, Start as StartWord, AP, Buchi, Acceptance, one_word, Inf, left, zero_word, right, BODY}
-use Rattle.hanoi.specs.Descriptions.{headed}
-use Rattle.hanoi.specs.Reading.{Step, over, next, refused, outside, expect, expect_number, check, states_item, start_item, propositions_item, names, acc_name_item, acceptance_item, header_end, from_propositions, from_start, header}
-use Rattle.hanoi_header.specs.declared.Header.{Header}
+use Rattle.tokens.specs.Places.{token_at, goes_on}
+use Rattle.hanoi.specs.Words.{HOA, v1, States, Start as StartWord, AP, Acceptance, one_word, Inf, left, zero_word, right, BODY}
+use Rattle.hanoi.specs.Reading.{Step, expect_number, check, states_item, start_item, propositions_item, names, acc_name_item, acceptance_item, header_end, from_propositions, from_start, header}
 use Rattle.hanoi_header.specs.declared.Item.{Item}
 use Rattle.hanoi_header.specs.declared.Item.TheVariants.{Refused, Value}
 use Rattle.hanoi_header.specs.declared.Start.{Start}
 use Rattle.hanoi_header.specs.declared.Start.TheVariants.{NoHeader, Begins}
-use Rattle.hanoi_header.specs.Items.{onward, onward_value, PastValue}
+use Rattle.hanoi_header.specs.Items.{onward, onward_value}
 use Rattle.hanoi_header.specs.Headers.{start_step, PastHeader}
-use Rattle.hanoi_header.proofs.ItemLaws.{token_read, then_read, value_read, value_refused, went_read, went_nowhere, past_value}
+use Rattle.hanoi_header.proofs.ItemLaws.{token_read, then_read, value_read, value_refused, went_read, went_nowhere}
 
 -- what number_in promises of its answer r behind x
 abbrev pub Checked : List ℕ → Went → ℕ → ℕ → ℕ → Item → Type 0

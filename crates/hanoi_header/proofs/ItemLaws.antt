@@ -2,7 +2,7 @@
 -- on after what a call answered, whatever follows. Assumes nothing.
 use mathlib.Core.Path.{◌≡◌, refl, sym, ap, subst, ◌∙◌}
 use mathlib.Core.Bool.{Bool, true, false, ◌&&◌}
-use mathlib.Core.List.{List, [], ◌∷◌}
+use mathlib.Core.List.{List}
 use Prim.Native.Nat.{ℕ, zero, suc, ◌+◌, ◌-◌, ◌≤◌, ◌<◌, min}
 use native.Mathlib.Omega.{arith}
 use lib.Dec.{eqb, leb, ltb}
@@ -13,7 +13,7 @@ use Rattle.tokens.specs.declared.Went.TheVariants.{Nowhere, Behind}
 use Rattle.tokens.specs.declared.Numeral.{Numeral}
 use Rattle.tokens.specs.declared.Numeral.TheVariants.{Missing, Value as Read-value}
 use Rattle.tokens.specs.Tokens.{stands, behind, Number, none, number, number_at, name_bytes}
-use Rattle.tokens.specs.Places.{token_at, goes_on, name_from, name_at, capped, Past, PastNumber}
+use Rattle.tokens.specs.Places.{token_at, goes_on, name_from, name_at, capped}
 use Rattle.tokens.proofs.LexicalLaws.{and_left, and_right}
 use Rattle.hanoi.specs.Words.{acc_name, Buchi, quote, left_brace, zero_word, right_brace}
 use Rattle.hanoi.specs.Reading.{Step, over, refused, outside, expect, expect_number, check, names, acc_name_item, acceptance}
