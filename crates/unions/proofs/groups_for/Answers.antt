@@ -1,0 +1,14 @@
+-- `unions::groups_for` meets its contract, by its branches. Assumes nothing.
+use mathlib.Core.Path.{sym}
+use native.Mathlib.Omega.{arith}
+use Rattle.unions.proofs.UnionTables.{groups_two, groups_four, groups_eight}
+use Rattle.unions.proofs.groups_for.Goals as goal
+
+pub returns-then-n-le8 : goal.returns-then-n-le8
+returns-then-n-le8 c = sym (groups_two c.args.n (omega arith))
+
+pub returns-then-n-le16 : goal.returns-then-n-le16
+returns-then-n-le16 c = sym (groups_four c.args.n (omega arith) (omega arith))
+
+pub returns-else-n-le16 : goal.returns-else-n-le16
+returns-else-n-le16 c = sym (groups_eight c.args.n (omega arith))
