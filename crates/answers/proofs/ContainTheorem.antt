@@ -24,7 +24,7 @@ use Rattle.slots.specs.Slots.{slot_count}
 use Rattle.graph.specs.Discovery.{Node, Walk, going, ended, full}
 use Rattle.graph.specs.LagGraph.{max_bound}
 use Rattle.graph.specs.Walks.{walk_of, word_of, word_after, NeedsMore}
-use Rattle.graph.proofs.WalkTheorem.{walk-decides-containment, walk-decides-difference, walk_ended, list_contained, list_differs}
+use Rattle.graph.proofs.WalkTheorem.{walk_decides_containment, walk_decides_difference, walk_ended, list_contained, list_differs}
 use Rattle.answers.specs.declared.Outcome.{Outcome}
 use Rattle.answers.specs.declared.Outcome.TheVariants.{Refused, Compared}
 use Rattle.answers.specs.declared.Comparison.TheVariants.{Differs, NoRoom}
@@ -179,7 +179,7 @@ module _ (f g : List ℕ) (b : ℕ) (work word : List ℕ) where
     λ e. let p = says_contained e.0 e.1 in
         passing_with p ((going p.condition.nodes, p.condition.fits), whole_contained p.second_read p.condition),
     λ p. let i = file_in_range g p.second p.second_read in
-        let w = (walk-decides-containment p.first p.second b S i.few_states i.initial_below).1 p.condition in
+        let w = (walk_decides_containment p.first p.second b S i.few_states i.initial_below).1 p.condition in
         (length w.0, passing_outcome p (going w.0) w.1),
   )
 
@@ -201,7 +201,7 @@ module _ (f g : List ℕ) (b : ℕ) (work word : List ℕ) where
   differs_iff = (
     ⊎_elim (λ e. not_contained (says_differs e.0 e.1 e.2)) (λ e. not_contained (says_no_room e.0 e.1)),
     λ p. let i = file_in_range g p.second p.second_read in
-        let w = (walk-decides-difference p.first p.second b S i.few_states i.initial_below).1 p.condition in
+        let w = (walk_decides_difference p.first p.second b S i.few_states i.initial_below).1 p.condition in
         let len = length (word_of p.first p.second b w.0 w.1) in
         room_cases (leb len (length word)) (outcome_of f g b work word) (length w.0) len
         (passing_outcome p (ended w.0 w.1) w.2),

@@ -172,18 +172,18 @@ module _ (A B : Automaton) (b S : ℕ) where
             inr (ns, n, (walk_ended ns n).1 g, shows_not_contained (word_of A B b ns n) (list_differs ns n g))
 
     -- the walk says "contained" exactly if the list fits the slots and A is contained in B
-    pub walk-decides-containment
+    pub walk_decides_containment
         : ((ns : List (Node Vertex)) × (walk_of A B b S ≡ going ns)) ↔ (((w : Walk Vertex) × Fits A B b S w) × Contained A B b)
-    walk-decides-containment = (
+    walk_decides_containment = (
       λ e. let f = (walk_going e.0).0 e.1 in ((going e.0, f), list_contained e.0 f),
       λ f. ⊎_elim (λ d. (d.0, d.1)) (λ d. absurd (d.3 f.1)) (decided f.0.0 f.0.1),
     )
 
     -- and "differs" exactly if the list fits and A is not contained in B
-    pub walk-decides-difference
+    pub walk_decides_difference
         : ((ns : List (Node Vertex)) × (n : Node Vertex) × (walk_of A B b S ≡ ended ns n))
         ↔ (((w : Walk Vertex) × Fits A B b S w) × (Contained A B b → ⊥))
-    walk-decides-difference = (
+    walk_decides_difference = (
       λ e.
           let f = (walk_ended e.0 e.1).0 e.2 in
           ((ended e.0 e.1, f), shows_not_contained (word_of A B b e.0 e.1) (list_differs e.0 e.1 f)),

@@ -6,7 +6,7 @@
 --   word_after word w  the word buffer after the word w: w in front where it has room, else unchanged; the rest as it was
 --   Fits A B b S w    w is the discovery list, and its vertices that are not final fit S slots
 --   NeedsMore A B b S the discovery list does not fit, which is refusal 10
--- Shown by `walk-decides-containment`, `list_differs`, `walk_full`, `walk_full_front`, `word_with_room` and `word_without_room`. Assumes
+-- Shown by `walk_decides_containment`, `list_differs`, `walk_full`, `walk_full_front`, `word_with_room` and `word_without_room`. Assumes
 -- nothing.
 use Rattle.std.specs.Prelude.{cond, ℕ, ◌*◌, ◌≤◌, leb, length, drop}
 use mathlib.Core.List.{List, flat_map, ◌++◌}

@@ -11,7 +11,7 @@ use borrow.Author.Tests.{ltb-true, leb-true, leb-false, le-ltb}
 use Rattle.tokens.specs.declared.Went.{Went}
 use Rattle.tokens.specs.declared.Went.TheVariants.{Nowhere, Behind}
 use Rattle.tokens.specs.declared.Numeral.{Numeral}
-use Rattle.tokens.specs.declared.Numeral.TheVariants.{Missing, Value as Read-value}
+use Rattle.tokens.specs.declared.Numeral.TheVariants.{Missing, Value as ReadValue}
 use Rattle.tokens.specs.Tokens.{stands, behind, Number, none, number, number_at, name_bytes}
 use Rattle.tokens.specs.Places.{token_at, goes_on, name_from, name_at, capped}
 use Rattle.tokens.proofs.LexicalLaws.{and_left, and_right}
@@ -99,12 +99,12 @@ module _ (low below : ℕ) (small : below ≤ 1000) where
         by none f = refl
         by (number v j) f = absurd (let z : ◌≡◌ {A = ℕ} 0 1 = cc in omega arith)
 
-    pub number_there : (x : Went) (i : ℕ) → x ≡ Behind i → (r : Numeral) → r ≡ capped (number_at s i) → (u j : ℕ) → r ≡ Read-value u j
+    pub number_there : (x : Went) (i : ℕ) → x ≡ Behind i → (r : Numeral) → r ≡ capped (number_at s i) → (u j : ℕ) → r ≡ ReadValue u j
         → onward x (λ j. expect_number s j (λ v l. check (ok v) n (go v l))) ≡ onward_value (checked_value u j low below n) go
     unfolding expected
     number_there x i e r h u j d = by_number x i e ∙ by (number_at s i) (sym d ∙ h)
       where
-        by : (y : Number) → Read-value u j ≡ capped y → expected y ≡ onward_value (checked_value u j low below n) go
+        by : (y : Number) → ReadValue u j ≡ capped y → expected y ≡ onward_value (checked_value u j low below n) go
         by none f = absurd (let z : ◌≡◌ {A = ℕ} 0 1 = cc in omega arith)
         by (number v l) f =
             let a : min v 1000 ≡ u = cc in

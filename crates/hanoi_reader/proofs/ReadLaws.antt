@@ -10,7 +10,7 @@ use Rattle.automaton.specs.declared.Automaton.{Automaton}
 use Rattle.automaton.specs.declared.Head.{Head}
 use Rattle.automaton.specs.Automata.{max_states, whole_of, bare, InRange}
 use Rattle.fixed_form.specs.declared.WriteAnswer.{WriteAnswer}
-use Rattle.fixed_form.specs.declared.WriteAnswer.TheVariants.{Refused as Refused-text}
+use Rattle.fixed_form.specs.declared.WriteAnswer.TheVariants.{Refused as RefusedText}
 use Rattle.fixed_form.specs.Write.{Write, writing}
 use Rattle.hanoi.specs.Descriptions.{Description, headed}
 use Rattle.hanoi.specs.Reading.{Read, refused, describes, Step, over, next, header, part_at, body, read_hanoi}
@@ -194,7 +194,7 @@ module _ (s : List ℕ) (m : ℕ) (A : Automaton) (h : ReadTo s (read_hanoi s) m
 
   -- the call: a refusal of the text changes nothing; else its automaton is written
   module _ (out : List ℕ) where
-    pub text_stops : (m ≡ 0 → ⊥) → (Refused-text m ≡ (hanoi_of s out).answer) × ((out ≡ (hanoi_of s out).out) × HanoiDemand1 s out)
+    pub text_stops : (m ≡ 0 → ⊥) → (RefusedText m ≡ (hanoi_of s out).answer) × ((out ≡ (hanoi_of s out).out) × HanoiDemand1 s out)
     text_stops z =
         let e = hanoi_refused s out m (text_refused z) in
         (sym (ap (λ (w : Write). w.answer) e), (sym (ap (λ (w : Write). w.out) e), hanoi_demand_1 s out))

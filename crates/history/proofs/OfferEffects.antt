@@ -12,7 +12,7 @@ use Rattle.format.specs.File.{holds, read_file}
 use Rattle.format.proofs.FileLaws.{file_in_range, read_same}
 use Rattle.slots.specs.declared.Vertex.{Vertex}
 use Rattle.graph.specs.Discovery.{Node}
-use Rattle.graph.proofs.WalkTheorem.{walk_ended, list_contained, walk-decides-difference}
+use Rattle.graph.proofs.WalkTheorem.{walk_ended, list_contained, walk_decides_difference}
 use Rattle.answers.specs.Table.{Final, Whole}
 use Rattle.checks.specs.Checks.{First, None}
 use Rattle.checks.proofs.ChecksLaws.{also, none_first, first_append_cases, first_every}
@@ -38,7 +38,7 @@ module _ {A B : Automaton} {b S : ℕ} (i : InRange B) where
   final_not_contained : {P : List (Node Vertex) → Node Vertex → Type 0} → Final A B b S P → Contained A B b → ⊥
   final_not_contained w =
       let e = (walk_ended A B b S w.nodes w.last).1 w.fits in
-      ((walk-decides-difference A B b S i.few_states i.initial_below).0 (w.nodes, w.last, e)).1
+      ((walk_decides_difference A B b S i.few_states i.initial_below).0 (w.nodes, w.last, e)).1
 
 module _ (E : Entry) (f : List ℕ) (b : ℕ) (work word : List ℕ) where
   -- no refusal's answer is "taken"

@@ -3,7 +3,7 @@
 --   Follows A B b w π   B has a run prefix on w, and the lag of π and that prefix, in this order, is at most b
 --   Contained A B b     B follows every run prefix of A so, on the prefix's own word
 --   Shows A B b w       the word w shows that containment fails: B does not follow some run prefix of A on it
--- Shown by `walk-decides-containment` of the crate graph, and what it is good for by `containment_keeps_lassos`. Assumes nothing.
+-- Shown by `walk_decides_containment` of the crate graph, and what it is good for by `containment_keeps_lassos`. Assumes nothing.
 use Rattle.std.specs.Prelude.{List, ℕ, ◌≤◌}
 use Rattle.automaton.specs.declared.Automaton.{Automaton}
 use Rattle.runs.specs.Runs.{Prefix}
