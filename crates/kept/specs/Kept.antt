@@ -6,7 +6,7 @@
 --   KeptStep                 what the two places from `at` on may say of the step on letter a from the counters f: a class that is not 0 is the
 --                            class of the counters after the step, among the first n slots
 --   KeptLines                the same of each line and letter: the line's owner is a class, and f are its counters
--- Shown by `Kept-line`, `Kept-step` and `kept_grows`. Assumes nothing.
+-- Shown by `kept_line`, `kept_step` and `kept_grows`. Assumes nothing.
 use Rattle.std.specs.Prelude.{◌≡◌, cond, List, ℕ, zero, suc, ◌+◌, ◌*◌, ◌%◌, ◌<◌, eqb, length, get_or}
 use Rattle.automaton.specs.Automata.{max_letters}
 use Rattle.relations.specs.Rows.{changed_rows}
