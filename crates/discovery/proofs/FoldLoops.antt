@@ -1,12 +1,9 @@
 -- The code's loops follow the definition's folds: before each round of a loop the rest of the fold, from the list that the work
 -- buffer shows, gives the walk of the whole, and an answer that stops the loop is that walk's already. Assumes nothing.
 use mathlib.Core.Path.{◌≡◌, refl, sym, ◌∙◌, ap, subst}
-use mathlib.Core.Logic.{inl, inr}
-use mathlib.Core.List.{List, [], ◌∷◌, ◌++◌}
+use mathlib.Core.List.{List, [], ◌++◌}
 use Prim.Native.Nat.{ℕ}
 use native.Mathlib.Omega.{arith}
-use types.Run.{OneOf}
-use denote.Enum.Declared.{tag_of}
 use lib.ListN.{length}
 use Rattle.automaton.specs.declared.Automaton.{Automaton}
 use Rattle.slots.specs.declared.Vertex.{Vertex}
@@ -17,7 +14,6 @@ use Rattle.graph.proofs.Discoveries.{discover_all_ended, discover_all_full, disc
 use Rattle.discovery.specs.declared.Walked.{Walked}
 use Rattle.discovery.specs.declared.Walked.TheVariants.{Going, Ended, Full}
 use Rattle.discovery.specs.Representation.{Represents, Becomes}
-use Rattle.discovery.specs.contracts.Walked.{the_type}
 
 -- an answer that ends the loops
 abbrev pub EndsWalk : Walked → Type 0
@@ -26,9 +22,8 @@ EndsWalk (Ended i a p) = Unit {0}
 EndsWalk (Full n) = Unit {0}
 
 -- what a match that is not for `Going` knows
-pub other_stops : (r : Walked) → OneOf (1 ∷ 2 ∷ []) (tag_of the_type r) → EndsWalk r
-other_stops (Going n) (inl e) = absurd (omega arith)
-other_stops (Going n) (inr e) = absurd (omega arith)
+pub other_stops : (r : Walked) → ((n : ℕ) → r ≡ Going n → ⊥) → EndsWalk r
+other_stops (Going n) e = e n refl
 other_stops (Ended i a p) e = tt
 other_stops (Full n) e = tt
 

@@ -3,13 +3,11 @@
 use mathlib.Core.Path.{◌≡◌, sym, refl}
 use mathlib.Core.Bool.{Bool, true, false, ◌||◌, not}
 use Prim.Native.Nat.{ℕ, zero, suc}
-use borrow.Author.Rules.{rules}
 use borrow.Author.Tests.{eq-eqb}
 use lib.Dec.{eqb}
 use Rattle.automaton.proofs.Booleans.{clash}
 use Rattle.discovery.specs.Representation.{ClassKnown}
-use Rattle.discovery.proofs.class_now.Statement.{statement}
-use Rattle.discovery.proofs.class_now.Tie as tie
+use Rattle.discovery.proofs.class_now.Goals as goal
 
 known_class : (class : ℕ) (sure : Bool) (c : ℕ) → ClassKnown class sure c → (sure || not (eqb class 0)) ≡ true → class ≡ c
 known_class class true c K e = K.where_sure refl
@@ -20,16 +18,6 @@ known_class zero false c K e = clash (eq-eqb 0 0 refl) (flip (eqb 0 0) e)
     flip false q = refl
 known_class (suc s) false c K e = K.where_some s refl
 
-returns : tie.Need-returns
-returns c =
-    let s = c.before.before.before.before in
-    known_class s.args.class s.args.sure _ s.requires.4 c.if1.true
-
-class_of_requires : tie.Need-class-of-requires
-class_of_requires c κs = search rules
-
-returns_2 : tie.Need-returns-2
-returns_2 c = search rules
-
-pub class_now_spec : {M : Type 1} → statement M
-class_now_spec = tie.close (tie.spec returns class_of_requires returns_2)
+pub returns-then-sure-class : goal.returns-then-sure-class
+returns-then-sure-class c = let s = c in
+    known_class s.args.class s.args.sure _ s.requires.4 c.if-sure-class.true
