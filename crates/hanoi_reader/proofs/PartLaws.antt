@@ -1,16 +1,14 @@
 -- What stands at a place of the body does to what the code holds: the description gets one part more, and the bytes that the code writes are the automaton's
 -- with that part. Assumes nothing.
-use mathlib.Core.Path.{◌≡◌, refl, sym, ap, ap₂, subst, ◌∙◌}
+use mathlib.Core.Path.{◌≡◌, refl, sym, ap, subst, ◌∙◌}
 use mathlib.Core.Bool.{Bool, true, false, ◌&&◌, ◌||◌, not}
 use mathlib.Core.Logic.{⊎_elim}
 use mathlib.Core.List.{List, [], ◌∷◌, Memᴰ}
-use Prim.Native.Nat.{ℕ, zero, suc, ◌+◌, ◌/◌, ◌%◌, ◌^◌, ◌≤◌, ◌<◌}
+use Prim.Native.Nat.{ℕ, ◌/◌, ◌%◌, ◌^◌, ◌≤◌, ◌<◌}
 use native.Mathlib.Omega.{arith}
 use lib.Dec.{T, eqb, leb, ltb, eqb→eq, eqb_refl}
 use lib.ListN.{length, replicate, get_or-replicate, length-set}
-use borrow.Author.Tests.{eqb-true}
 use Rattle.automaton.specs.declared.Automaton.{Automaton}
-use Rattle.automaton.specs.declared.Head.{Head}
 use Rattle.automaton.specs.Sets.{bit, member}
 use Rattle.automaton.specs.Automata.{max_states, whole_of, bare, with_accepting}
 use Rattle.automaton.specs.Members.{with_member}
@@ -28,8 +26,8 @@ use Rattle.label_reader.specs.declared.Truth.TheVariants.{Bad, On}
 use Rattle.label_reader.specs.Truths.{answer_of}
 use Rattle.label_reader.proofs.ReadTruths.{answer_on, answer_bad}
 use Rattle.hanoi.specs.Words.{END, State, left_bracket, right_bracket}
-use Rattle.hanoi.specs.Descriptions.{Part, declared, edge, Description, headed, extended}
-use Rattle.hanoi.specs.Reading.{Step, over, next, refused, describes, outside, expect, expect_number, check, is_declared, acceptance, declaration, state_at, edge_at, edge_of, end_at, part_at}
+use Rattle.hanoi.specs.Descriptions.{Part, declared, edge, Description, extended}
+use Rattle.hanoi.specs.Reading.{Step, over, next, describes, outside, expect, expect_number, check, is_declared, acceptance, declaration, state_at, edge_at, edge_of, end_at, part_at}
 use Rattle.hanoi.specs.Meaning.{with_letters, with_part, with_parts, automaton_of, PartWithin, WellFormed}
 use Rattle.hanoi.proofs.Described.{few_letters}
 use Rattle.hanoi.proofs.ReadSteps.{edge_first_step, edge_state_step, edge_again_step, declared_none, declared_state, declared_edge}
@@ -41,7 +39,7 @@ use Rattle.hanoi_reader.specs.declared.Progress.{Progress}
 use Rattle.hanoi_reader.specs.declared.Progress.TheVariants.{Refused, Whole, Goes}
 use Rattle.hanoi_header.specs.Headers.{headed_by}
 use Rattle.hanoi_header.specs.Items.{onward, onward_value}
-use Rattle.hanoi_reader.specs.Taking.{head_of, with_mask, latest_state, Held, Advanced, Taken}
+use Rattle.hanoi_reader.specs.Taking.{head_of, with_mask, latest_state, Held, Taken}
 use Rattle.hanoi_header.proofs.ItemLaws.{token_read, value_read, value_refused, there, not_there}
 use Rattle.hanoi_header.proofs.HeaderLaws.{Checked, from_zero}
 use Rattle.hanoi_reader.proofs.LetterLaws.{letters_mask}

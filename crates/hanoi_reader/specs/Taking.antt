@@ -14,11 +14,11 @@
 --   described_before s  what the text describes before its end or its first fault
 --   ReadTo s r m A      reading s comes to r: by the refusal's number m, or 0, and the automaton A of what was read
 -- Shown by `going_starts`, `going_past`, `going_ends` and `going_stops`: how a reading goes on after a step. Assumes nothing.
-use Rattle.std.specs.Prelude.{◌≡◌, Bool, true, false, List, [], ◌∷◌, ℕ, zero, suc, ◌^◌, ◌≤◌, ◌<◌, length}
+use Rattle.std.specs.Prelude.{◌≡◌, true, false, List, [], ◌∷◌, ℕ, zero, suc, ◌^◌, ◌≤◌, ◌<◌, length}
 use Rattle.automaton.specs.declared.Automaton.{Automaton}
 use Rattle.automaton.specs.declared.Head.{Head}
 use Rattle.automaton.specs.Sets.{bit, member}
-use Rattle.automaton.specs.Automata.{max_states, whole_of}
+use Rattle.automaton.specs.Automata.{max_states}
 use Rattle.automaton.specs.Members.{with_bit_for}
 use Rattle.hanoi.specs.Descriptions.{Part, declared, edge, Description, headed}
 use Rattle.hanoi.specs.Reading.{Read, refused, describes, Step, over, next, header, is_declared, part_at}
