@@ -91,7 +91,7 @@ each (d ∷ cs) t c m =
     ⊎_elim (λ e. subst (λ (x : Case). T (test x)) (sym e) h.0) (λ k. each cs h.1 c k) (Memᴰ.cases_cons m)
 
 computed : T (every cases)
-unfolding every test judged ranges.some ranges.those ranges.chained ranges.table ranges.largest automata.accepts automata.transition automata.targets automata.bare automata.withAccepting automata.withTransition automata.headerValues paths.relation paths.through paths.rounds paths.closure writing.itemsBytes records.recordIn file.header file.takes file.records file.readFile ends.edge ends.paths ends.live ends.dead ends.deadStates ends.hasDead slots.same_list slots.sameVertex slots.allZero graph.initialCounter graph.initialVertex graph.counter graph.stepped graph.successor graph.successors walks.walk_of walks.word_of contain.comparing contain.deciding contain.containing contain.wordPart lasso.only lasso.onLetter lasso.onWord lasso.loopRuns lasso.loopVisits lasso.accepted form.acceptingItems form.transitionItems form.written writes.writing writes.writeOf tokens.whites tokens.skip tokens.starts_with tokens.stands tokens.digits tokens.value tokens.numberAt tokens.nameBytes labels.truth reads.atomAt reads.more reads.conjunction reads.disjunction reads.operand_at reads.label_at texts.expect texts.expectNumber texts.check texts.names texts.accNameItem texts.acceptance texts.isDeclared texts.stateAt texts.edge_at texts.edge_of texts.end_at texts.part_at texts.header texts.body texts.readHanoi meaning.withLetters meaning.withPart meaning.withParts meaning.automatonOf calls.hanoiOf
+unfolding every test judged ranges.some ranges.those ranges.chained ranges.table ranges.largest automata.accepts automata.transition automata.targets automata.bare automata.with_accepting automata.with_transition automata.header_values paths.relation paths.through paths.rounds paths.closure writing.items_bytes records.record_in file.header file.takes file.records file.read_file ends.edge ends.paths ends.live ends.dead ends.dead_states ends.has_dead slots.same_list slots.same_vertex slots.all_zero graph.initial_counter graph.initial_vertex graph.counter graph.stepped graph.successor graph.successors walks.walk_of walks.word_of contain.comparing contain.deciding contain.containing contain.word_part lasso.only lasso.on_letter lasso.on_word lasso.loop_runs lasso.loop_visits lasso.accepted form.accepting_items form.transition_items form.written writes.writing writes.write_of tokens.whites tokens.skip tokens.starts_with tokens.stands tokens.digits tokens.value tokens.number_at tokens.name_bytes labels.truth reads.atom_at reads.more reads.conjunction reads.disjunction reads.operand_at reads.label_at texts.expect texts.expect_number texts.check texts.names texts.acc_name_item texts.acceptance texts.is_declared texts.state_at texts.edge_at texts.edge_of texts.end_at texts.part_at texts.header texts.body texts.read_hanoi meaning.with_letters meaning.with_part meaning.with_parts meaning.automaton_of calls.hanoi_of
 computed = tt
 
 pub proved_cases : (c : Case) → Memᴰ c cases → Right c

@@ -36,11 +36,11 @@ use Rattle.cases.specs.Worked.{F, G}
 use Rattle.cases.specs.Cases.{buffer, opened_f}
 
 opened_filled : opened_f.filled ≡ true
-unfolding ranges.some ranges.those ranges.table ranges.largest automata.accepts automata.transition automata.targets automata.bare automata.withAccepting automata.withTransition automata.headerValues paths.relation paths.through paths.rounds paths.closure writing.itemsBytes records.recordIn file.header file.takes file.records file.readFile ends.edge ends.paths ends.live ends.dead ends.deadStates ends.hasDead entries.freshEntry entries.malformed opens.openChecks opens.openOf
+unfolding ranges.some ranges.those ranges.table ranges.largest automata.accepts automata.transition automata.targets automata.bare automata.with_accepting automata.with_transition automata.header_values paths.relation paths.through paths.rounds paths.closure writing.items_bytes records.record_in file.header file.takes file.records file.read_file ends.edge ends.paths ends.live ends.dead ends.dead_states ends.has_dead entries.fresh_entry entries.malformed opens.open_checks opens.open_of
 opened_filled = refl
 
 opened_well_formed : opened_f.filled ≡ true → WellFormed opened_f
-unfolding call_entry entry_after entries.freshEntry
+unfolding call_entry entry_after entries.fresh_entry
 opened_well_formed = (list_claim fresh_entry refl (open_call F ∷ [])).well_formed
 
 opened_passes : malformed opened_f ≡ false
@@ -56,7 +56,7 @@ module _ (E : Entry) (f : List ℕ) (b : ℕ) (work word : List ℕ) where
   passes_nine e = rw e refl
 
 computed : (after_nine opened_f G 1 (buffer 400) (buffer 4)).answer ≡ Taken 5 8
-unfolding flat_map ranges.some ranges.those ranges.chained ranges.table ranges.largest automata.accepts automata.transition automata.targets automata.bare automata.withAccepting automata.withTransition automata.headerValues paths.relation paths.through paths.rounds paths.closure writing.itemsBytes records.recordIn file.header file.takes file.records file.readFile ends.edge ends.paths ends.live ends.dead ends.deadStates ends.hasDead slots.same_list slots.sameVertex slots.allZero graph.initialCounter graph.initialVertex graph.counter graph.stepped graph.successor graph.successors walks.walk_of walks.slots_of walks.workAfter walks.word_of slots.slotBytes contain.comparing entries.freshEntry entries.malformed entries.smaller opens.openChecks opens.openOf
+unfolding flat_map ranges.some ranges.those ranges.chained ranges.table ranges.largest automata.accepts automata.transition automata.targets automata.bare automata.with_accepting automata.with_transition automata.header_values paths.relation paths.through paths.rounds paths.closure writing.items_bytes records.record_in file.header file.takes file.records file.read_file ends.edge ends.paths ends.live ends.dead ends.dead_states ends.has_dead slots.same_list slots.same_vertex slots.all_zero graph.initial_counter graph.initial_vertex graph.counter graph.stepped graph.successor graph.successors walks.walk_of walks.slots_of walks.work_after walks.word_of slots.slot_bytes contain.comparing entries.fresh_entry entries.malformed entries.smaller opens.open_checks opens.open_of
 computed = refl
 
 pub offer_taken : (offer_of opened_f G 1 (buffer 400) (buffer 4)).answer ≡ Taken 5 8

@@ -228,13 +228,13 @@ slots_kind i n true e = omega (arith, e)
 slots_kind i n false e = omega (arith, e)
 
 refusal_kind : {n : ℕ} → offers.OfferRefusal n → (100 + n ≤ 114)
-refusal_kind offers.malformed-entry = omega arith
-refusal_kind offers.empty-entry = omega arith
-refusal_kind (offers.bad-file l h) = omega arith
-refusal_kind offers.bad-bound = omega arith
-refusal_kind offers.other-letters = omega arith
-refusal_kind offers.dead-state = omega arith
-refusal_kind offers.not-smaller = omega arith
+refusal_kind offers.malformed_entry = omega arith
+refusal_kind offers.empty_entry = omega arith
+refusal_kind (offers.bad_file l h) = omega arith
+refusal_kind offers.bad_bound = omega arith
+refusal_kind offers.other_letters = omega arith
+refusal_kind offers.dead_state = omega arith
+refusal_kind offers.not_smaller = omega arith
 
 -- kind 0 is taken
 kind_taken : (S room : ℕ) (x : OfferAnswer) → OfferListed S room x → (offer_number x % 2 ^ 8 ≡ 0) ↔ (is_taken x ≡ true)

@@ -80,7 +80,7 @@ module _ (s u v : List ℕ) where
   entry_verdict_number e = rw e refl
 
 open_refusal_le : {n : ℕ} → OpenRefusal n → n ≤ 12
-open_refusal_le opens.malformed-entry = omega arith
+open_refusal_le opens.malformed_entry = omega arith
 open_refusal_le already_open = omega arith
 open_refusal_le (bad_file l h) = omega arith
 open_refusal_le dead_state = omega arith
@@ -151,13 +151,13 @@ pub opened_result_fits : (E : Entry) (f : List ℕ) (G : Entry) (x : OpenAnswer)
 opened_result_fits E f G x d e h = subst FitsBytes (sym e) (opened_fits E f (ap is_opened (sym d) ∙ h))
 
 offer_refusal_le : {n : ℕ} → OfferRefusal n → n ≤ 14
-offer_refusal_le offers.malformed-entry = omega arith
-offer_refusal_le offers.empty-entry = omega arith
-offer_refusal_le (offers.bad-file l h) = omega arith
-offer_refusal_le offers.bad-bound = omega arith
-offer_refusal_le offers.other-letters = omega arith
-offer_refusal_le offers.dead-state = omega arith
-offer_refusal_le offers.not-smaller = omega arith
+offer_refusal_le offers.malformed_entry = omega arith
+offer_refusal_le offers.empty_entry = omega arith
+offer_refusal_le (offers.bad_file l h) = omega arith
+offer_refusal_le offers.bad_bound = omega arith
+offer_refusal_le offers.other_letters = omega arith
+offer_refusal_le offers.dead_state = omega arith
+offer_refusal_le offers.not_smaller = omega arith
 
 walk_number_le : {i : ℕ} → WalkNumber i → i ≤ 2
 walk_number_le forward_walk = omega arith
