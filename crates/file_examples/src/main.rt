@@ -4,6 +4,7 @@
 #![tactic(auto)]
 
 ghost use Rattle.std.specs.Prelude.{◌<◌, ◌≤◌, length, IfOk};
+ghost use Rattle.input.specs.Counts.{IsPrefixLen};
 ghost use Rattle.automaton.specs.Automata.{whole_of, InRange};
 
 use automaton::{Head, MAX_STATES};
@@ -92,7 +93,7 @@ fn digit(c: u8) -> u8
 
 // Puts the bytes that a text gives, each in two digits after a colon or a space, at the front of a file, and answers how many they are.
 fn put_bytes(text: &[u8], file: &mut [u8]) -> usize
-    ensures { result ≤ length file.new }
+    ensures { IsPrefixLen result file.new }
 {
     let mut n: usize = 0;
     while n < file.len() {

@@ -1,7 +1,7 @@
 // Opens the file first.ba, offers the file offer.ba to it at the bound that standard input gives as one byte, and prints the line.
 #![tactic(auto)]
 
-ghost use Rattle.std.specs.Prelude.{◌≤◌, length};
+ghost use Rattle.input.specs.Counts.{IsPrefixLen};
 
 use input::read_full;
 use std::rt::Files;
@@ -10,7 +10,7 @@ use std::{fs, io};
 // Reads a file to the front of the buffer, until its end or the buffer's, and answers how many bytes were read. A file that cannot be
 // opened counts as empty.
 fn load(rt: &impl Files, path: &str, buffer: &mut [u8]) -> usize
-    ensures { result ≤ length buffer.new }
+    ensures { IsPrefixLen result buffer.new }
 {
     match fs::open(rt, path) {
         Ok(mut file) => read_full(&mut file, buffer),

@@ -1,0 +1,2 @@
+-- What is read to the front of a buffer.
+pub mod Counts
