@@ -48,10 +48,11 @@ returns c =
     let r = c.requires in
     let none = rw c.slot_count.ensures at c.if-n-slot_count.false in
     let k = c.class_now-known in
+    let j = c.if-known-eq0 in
     let z : all_zero a.counters.now ≡ false =
-    elim c.if-known-eq0.branch [
-      | then-known-eq0+else-all_zero w ↦ sym (all_zero_is a.counters.now r.3.keyed.long) ∙ sym w.all_zero.ensures ∙ w.if-all_zero.false
-      | else-known-eq0 w ↦ class_alive a.work.now a.heads.now a.nexts.now a.listed.now a.counters.now a.n k.result r.0 k.ensures w.if-known-eq0.false
+    elim j.branch [
+      | then-known-eq0+else-all_zero x ↦ sym (all_zero_is a.counters.now r.3.keyed.long) ∙ sym x.all_zero.ensures ∙ x.if-all_zero.false
+      | else-known-eq0 x ↦ class_alive a.work.now a.heads.now a.nexts.now a.listed.now a.counters.now a.n k.result r.0 k.ensures x.if-known-eq0.false
     ] in record {
       represents = λ A B b start ns S. discover_full A B b a.work.now a.n start ns S a.p a.letter v r.3.unlisted z none;
       ready = tt;
