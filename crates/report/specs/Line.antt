@@ -9,8 +9,7 @@
 --   answered_length m l d  the length that is answered: the line's, or 0 where nothing is written
 --   Lined m l d e n        the buffer d is e after the line l, and n is the length that is answered, which is within the buffer
 -- Shown by `taken_line` and `back_line`, the lines that 01 prints, and by the contract of `offer_line`. Assumes nothing.
-use Rattle.std.specs.Prelude.{◌≡◌, Bool, cond, List, [], ◌∷◌, ◌++◌, ℕ, ◌+◌, ◌*◌, ◌≤◌, leb, length, drop}
-use Rattle.automaton.specs.declared.Automaton.{Automaton}
+use Rattle.std.specs.Prelude.{◌≡◌, cond, List, [], ◌∷◌, ◌++◌, ℕ, ◌+◌, ◌*◌, ◌≤◌, leb, length, drop}
 use Rattle.text.specs.Text.{decimal, percent_saved, space, letters}
 use Rattle.history.specs.declared.Entry.{Entry}
 use Rattle.history.specs.declared.OfferAnswer.{OfferAnswer}

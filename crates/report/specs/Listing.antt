@@ -3,7 +3,7 @@
 -- work and 2,048 of word, and the line is that of the offer, or of the refusal that came up.
 --   listing input first offer   the line, of the bytes of standard input and of the two files
 -- Shown by the contract of `listing_line`. Assumes nothing.
-use Rattle.std.specs.Prelude.{Bool, true, cond, ◌||◌, not, List, [], ◌∷◌, ◌++◌, ℕ, eqb, ltb, length, get_or, replicate}
+use Rattle.std.specs.Prelude.{cond, ◌||◌, not, List, ◌++◌, ℕ, eqb, ltb, length, get_or, replicate}
 use Rattle.history.specs.declared.Entry.{Entry}
 use Rattle.history.specs.declared.OpenAnswer.{OpenAnswer}
 use Rattle.history.specs.declared.OpenAnswer.TheVariants.{Opened, Refused}

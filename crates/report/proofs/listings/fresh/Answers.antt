@@ -2,12 +2,8 @@
 use mathlib.Core.Path.{refl}
 use Rattle.automaton.specs.Automata.{bare}
 use Rattle.history.specs.Entries.{fresh_entry}
-use Rattle.report.proofs.listings.fresh.Statement.{statement}
-use Rattle.report.proofs.listings.fresh.Tie as tie
+use Rattle.report.proofs.listings.fresh.Goals as goal
 
-returns : tie.Need-returns
+pub returns : goal.returns
 unfolding fresh_entry bare
 returns c = refl
-
-pub fresh_spec : {M : Type 1} → statement M
-fresh_spec = tie.close (tie.spec returns)
