@@ -68,11 +68,11 @@ module _
     (A B : Automaton)
     (in_a : InRange A)
     (in_b : InRange B)
-    (setA : Bytes 4 A.accepting × Bytes 2048 A.transitions)
+    (set_a : Bytes 4 A.accepting × Bytes 2048 A.transitions)
     (set_b : Bytes 4 B.accepting × Bytes 2048 B.transitions)
   where
     same_accepting : ((q : ℕ) → accepts A q ≡ accepts B q) → A.accepting ≡ B.accepting
-    same_accepting e = same_bytes 4 A.accepting B.accepting setA.0 set_b.0 bits
+    same_accepting e = same_bytes 4 A.accepting B.accepting set_a.0 set_b.0 bits
       where
         bits : (i j : ℕ) → i < 4 → j < 8 → bit (get_or A.accepting i 0) j ≡ bit (get_or B.accepting i 0) j
         bits i j hi hj =
@@ -83,7 +83,7 @@ module _
             (member_accepts A B in_a e (8 * i + j) (omega arith)) (member_accepts B A in_b (λ q. sym (e q)) (8 * i + j) (omega arith)))
 
     same_transitions : ((q a r : ℕ) → transition A q a r ≡ transition B q a r) → A.transitions ≡ B.transitions
-    same_transitions e = same_bytes 2048 A.transitions B.transitions setA.1 set_b.1 bits
+    same_transitions e = same_bytes 2048 A.transitions B.transitions set_a.1 set_b.1 bits
       where
         bits : (i j : ℕ) → i < 2048 → j < 8 → bit (get_or A.transitions i 0) j ≡ bit (get_or B.transitions i 0) j
         bits i j hi hj =

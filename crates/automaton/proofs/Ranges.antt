@@ -24,15 +24,15 @@ same_along g i j h same = go (j - i) i (omega arith) (omega arith)
 
 -- Tables.
 
-pub getD-table {ℓ} : {A : Type ℓ} (f : ℕ → A) (n i k : ℕ) (d : A) → k < n → get_or (table f n i) k d ≡ f (i + k)
+pub get_or-table {ℓ} : {A : Type ℓ} (f : ℕ → A) (n i k : ℕ) (d : A) → k < n → get_or (table f n i) k d ≡ f (i + k)
 unfolding table
-getD-table f zero i k d h = absurd (not-suc-le-zero h)
-getD-table f (suc n) i zero d h = ap f (sym (add-zero i))
-getD-table f (suc n) i (suc k) d h = getD-table f n (suc i) k d (le_of_suc-le-suc h) ∙ ap f (suc-add i k ∙ sym (add-suc i k))
+get_or-table f zero i k d h = absurd (not-suc-le-zero h)
+get_or-table f (suc n) i zero d h = ap f (sym (add-zero i))
+get_or-table f (suc n) i (suc k) d h = get_or-table f n (suc i) k d (le_of_suc-le-suc h) ∙ ap f (suc-add i k ∙ sym (add-suc i k))
 
 -- the element at k of a table that starts at 0
 pub table_at {ℓ} : {A : Type ℓ} (f : ℕ → A) (n k : ℕ) (d : A) → k < n → get_or (table f n 0) k d ≡ f k
-table_at f n k d h = getD-table f n 0 k d h ∙ ap f (zero-add k)
+table_at f n k d h = get_or-table f n 0 k d h ∙ ap f (zero-add k)
 
 pub length-table {ℓ} : {A : Type ℓ} (f : ℕ → A) (n i : ℕ) → length (table f n i) ≡ n
 unfolding table

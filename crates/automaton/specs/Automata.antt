@@ -6,7 +6,7 @@
 --   bare n k i             n states, k letters, initial state i, nothing accepting and no transition
 --   with_accepting, with_transition  one accepting state, one transition more
 --   whole_of h t            the automaton with the head h and the transitions t
---   InRange A, inRange A   the header's numbers are those that a file may have, and no bit is set for a state or a letter that they
+--   InRange A, in_range A  the header's numbers are those that a file may have, and no bit is set for a state or a letter that they
 --                          leave out: said, and computed
 -- Shown by `in_range_iff`: the two say the same. By `equal_automata` an automaton in range is known by its header, its accepting states and its
 -- transitions. Assumes nothing.

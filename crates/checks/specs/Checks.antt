@@ -1,7 +1,7 @@
 -- Checks in order, where the first condition that holds decides (01, "Contain", "Verdict", "Entry, open, offer"; 02, S-1 and S-2).
 --   Row            a row of a table, as a condition on answers: of x it says that the row's condition holds and that x is its answer
 --   answers x C    the row with the answer x under the condition C
---   answers_by a C  the row with the answer a n for the number n of which C holds; answersBy₂ and answersBy₃ take two and three numbers
+--   answers_by a C  the row with the answer a n for the number n of which C holds; answers_by₂ and answers_by₃ take two and three numbers
 --   First rows x   x is the answer of a row whose condition holds, and no earlier row's does
 --   None rows      no row's condition holds
 --   At k rows x    the row at place k, counted from 0, has the answer x and its condition holds

@@ -5,7 +5,7 @@
 --   expect w s i go       the token w stands at place i of s, and the reading goes on behind it; else the refusal is 17
 --   expect_number s i go  the same of a number, which is handed on
 --   check b n x     x where the test holds; else the refusal n
---   states_item, start_item, propositions_item, header_end  the header's items; fromStart, fromPropositions: it and all behind it
+--   states_item, start_item, propositions_item, header_end  the header's items; from_start, from_propositions: it and all behind it
 --   header s        the header and `--BODY--`
 --   part_at s i D    the state, the edge or the end at place i, with what stands before it in D
 --   read_hanoi s    the whole text

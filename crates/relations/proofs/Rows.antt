@@ -27,15 +27,15 @@ use Rattle.relations.proofs.Closure.{related_relation}
 
 -- Tables and tests over a range: told by their elements, and one number more.
 
-table-same-from {ℓ} : {X : Type ℓ} (f g : ℕ → X) (n i : ℕ) → ((k : ℕ) → i ≤ k → k < i + n → f k ≡ g k) → table f n i ≡ table g n i
+table_same_from {ℓ} : {X : Type ℓ} (f g : ℕ → X) (n i : ℕ) → ((k : ℕ) → i ≤ k → k < i + n → f k ≡ g k) → table f n i ≡ table g n i
 unfolding table
-table-same-from f g zero i e = refl
-table-same-from f g (suc n) i e =
+table_same_from f g zero i e = refl
+table_same_from f g (suc n) i e =
     ap₂ (λ (x : _) (xs : List _). x ∷ xs) (e i (omega arith) (omega arith))
-    (table-same-from f g n (suc i) (λ k l h. e k (omega arith) (omega arith)))
+    (table_same_from f g n (suc i) (λ k l h. e k (omega arith) (omega arith)))
 
 pub table_same {ℓ} : {X : Type ℓ} (f g : ℕ → X) (n : ℕ) → ((k : ℕ) → k < n → f k ≡ g k) → table f n 0 ≡ table g n 0
-table_same f g n e = table-same-from f g n 0 (λ k l h. e k (omega arith))
+table_same f g n e = table_same_from f g n 0 (λ k l h. e k (omega arith))
 
 some_last : (f : ℕ → Bool) (n i : ℕ) → some f (suc n) i ≡ (some f n i || f (i + n))
 unfolding some

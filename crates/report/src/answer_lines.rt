@@ -3,7 +3,7 @@ ghost use Rattle.std.specs.Prelude.{List, ◌++◌, ℕ, ◌+◌, ◌*◌, ◌�
 ghost use Rattle.buffers.specs.Buffers.{WrittenAt};
 ghost use Rattle.text.specs.Text.{decimal, space};
 ghost use Rattle.report.specs.Line.{newline, word_text, fields, offer_line, refused_line, line_room};
-ghost use Rattle.text.specs.Text.{letters as lettersText};
+ghost use Rattle.text.specs.Text.{letters as letters_text};
 ghost use Rattle.report.specs.Summary.{SummaryOf};
 
 use buffers::{put_byte, put_text};
@@ -48,7 +48,7 @@ fn put_front(line: &mut [u8], outcome: &[u8], summary: Summary, forward: usize) 
 // Writes a line's end with a word: `word`, the letters and the newline.
 fn put_word(line: &mut [u8], at: usize, letters: &[u8]) -> usize
     requires { at + 6 + 4 * length letters.now ≤ length line.old }
-    ensures { WrittenAt line.old at (word_text ++ lettersText letters.now ++ newline) line.new result }
+    ensures { WrittenAt line.old at (word_text ++ letters_text letters.now ++ newline) line.new result }
 {
     let start = put_text(line, at, b" word");
     let behind = put_letters(line, start, letters);

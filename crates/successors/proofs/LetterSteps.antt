@@ -85,11 +85,11 @@ those_longer f (suc m) (suc n) i l e =
     ap (λ (x : List ℕ). elim (f i) [ true ↦ i ∷ x | false ↦ x ])
     (those_longer f m n (suc i) (omega arith) (λ k h g. e k (omega arith) (omega arith)))
 
-maps-same {ℓ} : {X : Type ℓ} (g h : ℕ → X) (f : ℕ → Bool) (n i : ℕ) → ((k : ℕ) → i ≤ k → k < i + n → g k ≡ h k)
+maps_same {ℓ} : {X : Type ℓ} (g h : ℕ → X) (f : ℕ → Bool) (n i : ℕ) → ((k : ℕ) → i ≤ k → k < i + n → g k ≡ h k)
     → map g (those f n i) ≡ map h (those f n i)
 unfolding those
-maps-same g h f zero i e = refl
-maps-same g h f (suc n) i e = go (f i) (maps-same g h f n (suc i) (λ k l u. e k (omega arith) (omega arith)))
+maps_same g h f zero i e = refl
+maps_same g h f (suc n) i e = go (f i) (maps_same g h f n (suc i) (λ k l u. e k (omega arith) (omega arith)))
   where
     go : (c : Bool) → map g (those f n (suc i)) ≡ map h (those f n (suc i))
         → map g (elim c [ true ↦ i ∷ those f n (suc i) | false ↦ those f n (suc i) ])
@@ -151,7 +151,7 @@ module _ (rules : Rules) (tops lefts masks : List ℕ) (left letter : ℕ) (coun
     unfolding successor
     letter_edges =
         ap (map (successor A B b (vertex_of left counters) letter)) all_targets
-        ∙ maps-same (successor A B b (vertex_of left counters) letter)
+        ∙ maps_same (successor A B b (vertex_of left counters) letter)
         (λ t. (
           letter,
           vertex_of t (side_of rules.accepting lowered

@@ -2,7 +2,7 @@
 ghost use Rattle.std.specs.Prelude.{◌≡◌, ◌++◌, ◌+◌, ◌*◌, ◌<◌, ◌≤◌, length};
 ghost use Rattle.buffers.specs.Buffers.{WrittenAt};
 ghost use Rattle.text.specs.Text.{decimal, space};
-ghost use Rattle.text.specs.Text.{letters as lettersText};
+ghost use Rattle.text.specs.Text.{letters as letters_text};
 
 use buffers::{put_byte, put_text};
 
@@ -48,7 +48,7 @@ fn put_letter(line: &mut [u8], at: usize, letter: u8) -> usize
 // Writes the letters of a word in decimal, each after a space, and answers the place behind them.
 pub fn put_letters(line: &mut [u8], at: usize, word: &[u8]) -> usize
     requires { at + 4 * length word.now ≤ length line.old }
-    ensures written_at { WrittenAt line.old at (lettersText word.now) line.new result }
+    ensures written_at { WrittenAt line.old at (letters_text word.now) line.new result }
     ensures upper_bound { result ≤ at + 4 * length word.now }
 {
     let mut next = at;

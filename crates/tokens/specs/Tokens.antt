@@ -1,7 +1,7 @@
 -- The tokens of a Hanoi text (02, S-2), computed at a place of it. A text is a list of bytes, and a place the number of bytes before it. White space is
 -- passed before every token, and a token that begins with a letter or digit does not stand right behind one.
 --   white, digit, alphanumeric, name_byte  the kinds of bytes: white space, digits, letters and digits, what a quoted name may hold
---   byte_at s j       the byte at place j; byteBefore s j the one before it
+--   byte_at s j       the byte at place j; byte_before s j the one before it
 --   skip s i         the first place from i on that holds no white space
 --   touches s j      the bytes at place j and before it are both letters or digits
 --   stands w s i     past white space from place i on stands the token with the bytes w

@@ -105,8 +105,8 @@ fn letter_row(rows: &[u64], letters: usize, letter: u8, p: usize) -> u64
 // where t accepts, each of them is a visit.
 fn met(pair: u64, accepting: u32, t: usize) -> u64
     requires { t < 32 }
-    ensures by_index { (q : ℕ) → q < 32 → bit result q ≡ bit pair q }
-    ensures by_index_2 { (q : ℕ) → q < 32 → bit result (32 + q) ≡ (bit pair (32 + q) || (bit accepting t && bit pair q)) }
+    ensures runs { (q : ℕ) → q < 32 → bit result q ≡ bit pair q }
+    ensures visits { (q : ℕ) → q < 32 → bit result (32 + q) ≡ (bit pair (32 + q) || (bit accepting t && bit pair q)) }
 {
     if relations::has(accepting, t) {
         pair | (pair % 4294967296) * 4294967296
@@ -203,10 +203,10 @@ fn diagonal(pairs: &mut [u64], n: usize)
 // The low and the high half of each of n pairs; the rows from n on stay.
 fn halves(pairs: &[u64], n: usize, runs: &mut [u32], visits: &mut [u32])
     requires { (n ≤ 32) × (n ≤ length pairs.now) × (n ≤ length runs.old) × (n ≤ length visits.old) }
-    ensures by_index { (p q : ℕ) → p < n → q < 32 → row_has runs.new p q ≡ row_has pairs.now p q }
-    ensures by_index_2 { (p q : ℕ) → p < n → q < 32 → row_has visits.new p q ≡ row_has pairs.now p (32 + q) }
-    ensures by_index_3 { (p : ℕ) → n ≤ p → get_or runs.new p 0 ≡ get_or runs.old p 0 }
-    ensures by_index_4 { (p : ℕ) → n ≤ p → get_or visits.new p 0 ≡ get_or visits.old p 0 }
+    ensures runs { (p q : ℕ) → p < n → q < 32 → row_has runs.new p q ≡ row_has pairs.now p q }
+    ensures visits { (p q : ℕ) → p < n → q < 32 → row_has visits.new p q ≡ row_has pairs.now p (32 + q) }
+    ensures runs_behind { (p : ℕ) → n ≤ p → get_or runs.new p 0 ≡ get_or runs.old p 0 }
+    ensures visits_behind { (p : ℕ) → n ≤ p → get_or visits.new p 0 ≡ get_or visits.old p 0 }
 {
     let mut p: usize = 0;
     while p < n {
@@ -227,9 +227,9 @@ fn loop_rows(
     visits: &mut [u32],
 )
     requires { (letters ≤ 16) × (letters * 32 ≤ length rows.now) × (n ≤ 32) × (n ≤ length runs.old) × (n ≤ length visits.old) }
-    ensures q_after { (A : Automaton) → HeldRows A n letters rows.now → HeldAccepting A accepting
+    ensures runs { (A : Automaton) → HeldRows A n letters rows.now → HeldAccepting A accepting
         → (p q : ℕ) → p < n → q < n → row_has runs.new p q ≡ related (loop_runs A cycle.now) p q }
-    ensures q_after_2 { (A : Automaton) → HeldRows A n letters rows.now → HeldAccepting A accepting
+    ensures visits { (A : Automaton) → HeldRows A n letters rows.now → HeldAccepting A accepting
         → (p q : ℕ) → p < n → q < n → row_has visits.new p q ≡ related (loop_visits A cycle.now) p q }
 {
     let mut pairs = [0u64; MAX_STATES];

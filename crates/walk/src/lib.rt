@@ -6,7 +6,7 @@ ghost use Rattle.automaton.specs.declared.Automaton.{Automaton};
 ghost use Rattle.automaton.specs.Automata.{max_states, max_letters, whole_of, InRange};
 ghost use Rattle.slots.specs.Slots.{slot_count, all_zero};
 ghost use Rattle.slots.specs.Bytes.{Falls};
-ghost use Rattle.graph.specs.Discovery.{below, expand as expanding, expand_all as expandingAll};
+ghost use Rattle.graph.specs.Discovery.{below, expand as expanding, expand_all as expanding_all};
 ghost use Rattle.graph.specs.LagGraph.{max_bound, initial_vertex, lag_graph};
 ghost use Rattle.graph.specs.Walks.{walk_of, work_after, word_after};
 ghost use Rattle.step.specs.Masks.{row_place};
@@ -98,7 +98,7 @@ fn expand_all(
     requires { Ready work.old heads.old nexts.old listed.old n × (rules.letters ≤ max_letters) × (rules.states ≤ max_states)
         × (row_place rules.states rules.letters 0 ≤ length masks.now) }
     ensures { (A B : Automaton) (b : ℕ) → RulesOf rules tops.now lefts.now masks.now A B b
-        → Becomes work.old n work.new result (λ S. expandingAll (lag_graph A B b) (below S) S 0) }
+        → Becomes work.old n work.new result (λ S. expanding_all (lag_graph A B b) (below S) S 0) }
 {
     let mut owners = [0u16; kept::LINES];
     let mut kept = [0u16; kept::LINES * kept::LINE_LENGTH];

@@ -1,4 +1,4 @@
--- `in_range` meets its contract: the three tests are those of `inRange`, and with header values in range there are few enough states
+-- `in_range` meets its contract: the three tests are those of `in_range`, and with header values in range there are few enough states
 -- to look for stray transitions. Assumes nothing.
 use mathlib.Core.Path.{◌≡◌, refl, sym, ◌∙◌}
 use mathlib.Core.Bool.{Bool, true, false, ◌&&◌, ◌||◌, not}

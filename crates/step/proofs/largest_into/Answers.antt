@@ -6,7 +6,7 @@ use native.Mathlib.Omega.{arith}
 use borrow.Author.Rules.{rules}
 use lib.ListN.{length, get_or, get_or-replicate}
 use Rattle.automaton.specs.Automata.{max_states}
-use Rattle.automaton.specs.Ranges.{largest as largestAmong}
+use Rattle.automaton.specs.Ranges.{largest as largest_among}
 use Rattle.automaton.proofs.Ranges.{length-table}
 use Rattle.step.specs.Steps.{largest_masked, all_largest}
 use Rattle.step.proofs.SteppedBytes.{table_is}
@@ -14,7 +14,7 @@ use Rattle.step.proofs.PresentStates.{masked_counter, present_few, present_below
 use Rattle.step.proofs.largest_into.Goals as goal
 
 pub loop-i-init : goal.loop-i-init
-unfolding largestAmong
+unfolding largest_among
 loop-i-init c = (search rules, present_few _ _ _ _ c.requires.2, refl, λ r l. get_or-replicate {A = ℕ} max_states r 0 0 l)
 
 pub bounds-counters-p : goal.bounds-counters-p
@@ -41,6 +41,6 @@ returns c = let l = c.loop-i in
     let e : l.i ≡ a.count = omega arith in
     table_is (largest_masked a.masks.now a.states a.letter a.counters.now) l.largest max_states l.invariant.2
     (λ r i. l.invariant.3 r i
-    ∙ ap (λ (j : ℕ). largestAmong (λ p. masked_counter a.masks.now a.states a.letter a.counters.now r (get_or a.places.now p 0)) j 0) e
+    ∙ ap (λ (j : ℕ). largest_among (λ p. masked_counter a.masks.now a.states a.letter a.counters.now r (get_or a.places.now p 0)) j 0) e
     ∙ largest_listed a.count a.places.now a.counters.now a.states c.requires.2
     (masked_counter a.masks.now a.states a.letter a.counters.now r) (λ p h z. omega arith))

@@ -19,7 +19,7 @@ returns c =
     c.some_returns.ensures
     ∙ words_decide A _ _ c.stem_ends-ends.result runs closed joined c.loop_rows.new.visits
     (c.stem_ends-ends.ensures A held)
-    (c.loop_rows.ensures.q_after A held accepting)
-    (c.loop_rows.ensures.q_after_2 A held accepting)
+    (c.loop_rows.ensures.runs A held accepting)
+    (c.loop_rows.ensures.visits A held accepting)
     (closed_rows_lem A.states runs closed c.close.ensures (omega arith))
     (diagonal_rows_lem A.states closed joined c.add_diagonal.ensures (omega arith))

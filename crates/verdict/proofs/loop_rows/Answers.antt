@@ -16,6 +16,6 @@ returns c = let split = c in
     → PairsOf A a.n a.cycle.now word.word_pairs.new.pairs =
     λ A h held. word.word_pairs.ensures A h held
     (pairs_begin A a.n a.letters a.rows.now h first.diagonal.new.pairs first.diagonal.ensures.first) in record {
-      q_after = λ A h held p q hp hq. split.halves.ensures.by_index p q hp (omega arith) ∙ (pairs A h held).runs p q hp hq;
-      q_after_2 = λ A h held p q hp hq. split.halves.ensures.by_index_2 p q hp (omega arith) ∙ (pairs A h held).visits p q hp hq;
+      runs = λ A h held p q hp hq. split.halves.ensures.runs p q hp (omega arith) ∙ (pairs A h held).runs p q hp hq;
+      visits = λ A h held p q hp hq. split.halves.ensures.visits p q hp (omega arith) ∙ (pairs A h held).visits p q hp hq;
     }

@@ -9,7 +9,7 @@ use Rattle.verdict.proofs.met.Goals as goal
 pub returns-then-has : goal.returns-then-has
 returns-then-has c = let a = c.args in
     let accepts : bit a.accepting a.t ≡ true = sym c.has.ensures ∙ c.if-has.true in record {
-      by_index = raised_low a.pair;
-      by_index_2 = λ q h. raised_high a.pair q h
+      runs = raised_low a.pair;
+      visits = λ q h. raised_high a.pair q h
           ∙ ap (λ (b : Bool). bit a.pair (32 + q) || (b && bit a.pair q)) (sym accepts);
     }
