@@ -17,7 +17,7 @@ pub const MAX_LETTERS: usize = 16;
 
 // The header's three numbers, the accepting states eight to a byte, and the transitions: the bit for the transition from q
 // on letter a to r is bit r % 8 of byte (q * 16 + a) * 4 + r / 8.
-#[derive(Drop)]
+#[derive(Clone, Copy)]
 pub struct Automaton {
     pub states: usize,
     pub letters: usize,

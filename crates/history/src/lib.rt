@@ -5,7 +5,7 @@
 use automaton::{Automaton, Head};
 
 // An entry: whether it holds an edition, that edition's number and automaton, and how many states the first edition had.
-#[derive(Drop)]
+#[derive(Clone, Copy)]
 pub struct Entry {
     pub filled: bool,
     pub edition: usize,

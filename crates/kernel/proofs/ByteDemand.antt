@@ -8,7 +8,7 @@ use mathlib.Core.List.{List, [], ◌∷◌, ◌++◌}
 use Prim.Native.Nat.{ℕ, ◌+◌, ◌*◌, ◌%◌, ◌^◌, ◌≤◌}
 use native.Mathlib.Omega.{arith}
 use borrow.Author.Tests.{eqb-true, eqb-false}
-use lib.Dec.{T, eqb}
+use lib.Dec.{eqb}
 use lib.ListN.{length}
 use Rattle.automaton.specs.declared.Automaton.{Automaton}
 use Rattle.automaton.proofs.Booleans.{clash, same_test, not_T_false}
@@ -34,7 +34,7 @@ use Rattle.boundary.specs.Numbers.{offer_number, verdict_number}
 use Rattle.history.specs.Calls.{Call, open_call, offer_call}
 use Rattle.history.specs.Lists.{call_entry, entry_after}
 use Rattle.history.specs.Account.{NextEdition, last_of, holding, Adds, Account, done, adds, keeps, accounted}
-use Rattle.history.specs.Demand.{KeptIf, ListClaim}
+use Rattle.history.specs.Demand.{KeptIf}
 use Rattle.history.proofs.EntryLaws.{malformed_iff}
 use Rattle.boundary.proofs.EntryBytes.{is_entry_bytes, entry_of_bytes}
 use Rattle.history.proofs.EntryEffects.{offer_keeps}
@@ -43,7 +43,7 @@ use Rattle.history.specs.OfferDemand as offers
 use Rattle.history.proofs.OfferAnswers.{offer_numbers}
 use Rattle.history.proofs.Editions.{last_append, fine_first, fine_formed}
 use Rattle.history.proofs.DemandThree.{list_claim}
-use Rattle.kernel.specs.EntryCalls.{is_opened, stored, open_bytes, offer_bytes, offer_bytes_number, verdict_bytes_number}
+use Rattle.kernel.specs.EntryCalls.{is_opened, stored, offer_bytes, offer_bytes_number}
 use Rattle.kernel.specs.ByteLists.{call_bytes, bytes_after, bytes_of, SameVerdicts, BytesClaim, DemandThreeBytes}
 use Rattle.kernel.proofs.EntryCallLaws.{entry_open_bytes, entry_verdict_number}
 

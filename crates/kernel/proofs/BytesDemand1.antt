@@ -1,6 +1,6 @@
 -- Demand 1 of the calls that vendors make, from that of the calls on files and entries, the numbers and the test of the bytes. Assumes
 -- nothing.
-use mathlib.Core.Path.{◌≡◌, refl, sym, ap, subst, ◌∙◌}
+use mathlib.Core.Path.{◌≡◌, refl, sym, ◌∙◌}
 use mathlib.Core.Bool.{Bool, true, false}
 use mathlib.Core.Logic.{◌↔◌}
 use mathlib.Core.List.{List}

@@ -7,7 +7,6 @@
 -- Shown by `demand_3_bytes`. Assumes nothing.
 use Rattle.std.specs.Prelude.{◌≡◌, true, false, List, [], ◌∷◌, ◌++◌, ◌↔◌, ℕ, ◌%◌, ◌^◌}
 use Rattle.automaton.specs.declared.Automaton.{Automaton}
-use Rattle.history.specs.declared.Entry.{Entry}
 use Rattle.history.specs.Verdicts.{verdict_of}
 use Rattle.history.specs.Opens.{first_edition}
 use Rattle.boundary.specs.Bytes.{is_entry, entry_of, entry_bytes}

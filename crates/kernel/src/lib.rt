@@ -34,13 +34,7 @@ use history::{EntryHead, OpenAnswer};
 
 // Whether the first file's automaton is contained in the second's at the bound, as one number: kind + 2^8 count + 2^24 word
 // length. The walk's slots stand in work; the word of "differs" stands in front in word.
-pub fn contain(
-    first: &[u8],
-    second: &[u8],
-    bound: u64,
-    work: &mut [u8],
-    word: &mut [u8],
-) -> u64
+pub fn contain(first: &[u8], second: &[u8], bound: u64, work: &mut [u8], word: &mut [u8]) -> u64
     ensures number { result ≡ outcome_number (outcome_of first.now second.now bound work.old word.old) }
     ensures work { work.new ≡ work_of first.now second.now bound work.old word.old }
     ensures word { word.new ≡ word_buffer first.now second.now bound work.old word.old }

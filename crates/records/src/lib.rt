@@ -9,7 +9,7 @@ mod bytes;
 use format::Record;
 
 // A file, and the position in it where the next record stands.
-#[derive(Drop)]
+#[derive(Clone, Copy)]
 pub struct Reader<'a> {
     pub file: &'a [u8],
     pub at: usize,
