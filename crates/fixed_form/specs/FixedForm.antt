@@ -11,7 +11,7 @@
 --   accepting_count A  the number of accepting states
 --   full_automaton     32 states and 16 letters, every state accepting, and every transition
 -- Shown by `fixed_form_iff`, of automata in range whose sets are bytes, as those of files are: `written A` is the one file that is the fixed form of A; by
--- `Written-Read`: it holds A; by `written_alike`: two of them have the same fixed form exactly when they are the same automaton; by `ascending_distinct`:
+-- `written_read`: it holds A; by `written_alike`: two of them have the same fixed form exactly when they are the same automaton; by `ascending_distinct`:
 -- ascending records have no repeats; by `written_length` and `longest_met`: the length. Assumes nothing.
 use Rattle.std.specs.Prelude.{◌≡◌, ◌⊎◌, ℕ, ◌<◌, replicate}
 use mathlib.Core.List.{List, [], ◌∷◌, ◌++◌, map, Memᴰ}
