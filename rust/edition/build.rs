@@ -13,7 +13,10 @@ fn main() {
     println!("cargo::rerun-if-changed={}", archive.display());
     match archive.canonicalize() {
         Ok(whole) => {
-            println!("cargo::rustc-link-search=native={}", whole.parent().unwrap_or(&whole).display());
+            println!(
+                "cargo::rustc-link-search=native={}",
+                whole.parent().unwrap_or(&whole).display()
+            );
             println!("cargo::rustc-link-lib=static=kernel");
         }
         Err(_) => println!(
