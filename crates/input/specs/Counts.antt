@@ -1,4 +1,6 @@
--- The number of bytes at the front of a buffer: n bytes of xs are in it, and they are n bytes. Assumes nothing.
+-- How many bytes stand at the front of a buffer.
+--   IsPrefixLen n xs    n is at most the length of xs, and its first n bytes are n bytes
+-- Assumes nothing.
 use Rattle.std.specs.Prelude.{◌≡◌, ℕ, ◌≤◌, List, length, take}
 
 abbrev pub IsPrefixLen : ℕ → List ℕ → Type 0
