@@ -12,7 +12,6 @@
 -- transitions. Assumes nothing.
 use Rattle.std.specs.Prelude.{Bool, true, false, ◌&&◌, ◌||◌, not, List, ℕ, ◌+◌, ◌*◌, ◌/◌, ◌%◌, ◌≤◌, ◌<◌, T, leb, ltb, get_or, set, replicate}
 use Rattle.automaton.specs.declared.Automaton.{Automaton}
-use Rattle.automaton.specs.declared.Head.{Head}
 use Rattle.automaton.specs.Ranges.{some, those, total}
 use Rattle.automaton.specs.Sets.{bit, with_bit, member}
 
@@ -72,9 +71,6 @@ with_transition A q a r =
       transitions = set A.transitions (place q a r) (with_bit (get_or A.transitions (place q a r) 0) (r % 8));
     }
 
-abbrev pub whole_of : Head → List ℕ → Automaton
-whole_of h t =
-    record { states = h.states; letters = h.letters; initial = h.initial; accepting = h.accepting; transitions = t }
 
 -- a header's three numbers are in their ranges; the initial state is one of the n states
 unfoldable pub header_values : ℕ → ℕ → ℕ → Bool

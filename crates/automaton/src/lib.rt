@@ -6,9 +6,10 @@ ghost use Rattle.automaton.specs.Automata.{header_values};
 
 mod sets;
 mod targets;
+mod valid;
 
-pub use sets::{accepts_in, add_member, has_bit, least_member, power, wide, with_bit};
-pub use targets::{add_transition, transition_in};
+pub use sets::{add_member, has_bit, is_member, least_member, with_bit};
+pub use valid::Valid;
 
 // The most states and the most letters that a header allows.
 pub const MAX_STATES: usize = 32;
@@ -24,15 +25,6 @@ pub struct Automaton {
     pub initial: usize,
     pub accepting: [u8; 4],
     pub transitions: [u8; 2048],
-}
-
-// An automaton without its transitions, which are lent beside it.
-#[derive(Clone, Copy)]
-pub struct Head {
-    pub states: usize,
-    pub letters: usize,
-    pub initial: usize,
-    pub accepting: [u8; 4],
 }
 
 // Whether a header's three numbers are in their ranges.

@@ -1,22 +1,7 @@
 // Sets of states, held eight states to a byte: the bits of a byte, its least member, and membership.
-ghost use Rattle.std.specs.Prelude.{◌≡◌, ◌<◌, ◌^◌};
+ghost use Rattle.std.specs.Prelude.{◌≡◌, ◌<◌};
 ghost use Rattle.automaton.specs.Sets.{bit, with_bit, member, least_member};
 ghost use Rattle.automaton.specs.Members.{with_member};
-
-// A byte as a number. A call of it also tells its caller that a byte is below 256.
-pub fn wide(x: u8) -> usize
-    ensures { (result ≡ x) × (result < 256) }
-{
-    x as usize
-}
-
-// Two to the power i: the byte in which bit i alone is set.
-pub fn power(i: usize) -> u8
-    requires { i < 8 }
-    ensures { result ≡ 2 ^ i }
-{
-    1 << i
-}
 
 // Whether bit i of the byte is set.
 pub fn has_bit(w: u8, i: usize) -> bool
@@ -31,15 +16,15 @@ pub fn with_bit(w: u8, i: usize) -> u8
     requires { i < 8 }
     ensures { result ≡ with_bit w i }
 {
-    w | power(i)
+    w | 1 << i
 }
 
 // Whether the set has state q.
-pub fn accepts_in(accepting: &[u8; 4], q: usize) -> bool
+pub fn is_member(set: &[u8; 4], q: usize) -> bool
     requires { q < 32 }
-    ensures { result ≡ member accepting.now q }
+    ensures { result ≡ member set.now q }
 {
-    has_bit(accepting[q / 8], q % 8)
+    has_bit(set[q / 8], q % 8)
 }
 
 // State q is in the set afterwards.

@@ -5,37 +5,36 @@
 ghost use Rattle.std.specs.Prelude.{◌≡◌, false, ◌&&◌, not, ℕ, ◌<◌, ◌≤◌, ltb, length, get_or};
 ghost use Rattle.automaton.specs.Ranges.{some, table};
 ghost use Rattle.automaton.specs.Sets.{bit};
-ghost use Rattle.automaton.specs.Automata.{InRange, whole_of};
-ghost use Rattle.automaton.specs.Members.{transition_in};
+ghost use Rattle.automaton.specs.Automata.{transition_bit};
 ghost use Rattle.relations.specs.Closure.{row_has};
 ghost use Rattle.deadstates.specs.DeadEnds.{dead_states, has_dead};
 
-use automaton::{Head, MAX_STATES};
+use automaton::{Automaton, MAX_STATES, Valid};
 
 // The targets of q on the first k letters.
-fn edges(transitions: &[u8; 2048], k: usize, q: usize) -> u32
+fn edges(automaton: &Automaton, k: usize, q: usize) -> u32
     requires { (k ≤ 16) × (q < 32) }
-    ensures { (r : ℕ) → r < 32 → bit result r ≡ some (λ a. transition_in transitions.now q a r) k 0 }
+    ensures { (r : ℕ) → r < 32 → bit result r ≡ some (λ a. transition_bit automaton.now q a r) k 0 }
 {
     let mut found: u32 = 0;
     let mut a: usize = 0;
     while a < k {
-        found = found | relations::row(transitions, q, a);
+        found = found | relations::row(automaton, q, a);
         a += 1;
     }
     found
 }
 
 // Row q of the first n rows becomes the targets of q on the first k letters; the rows from n on stay.
-fn edge_rows(transitions: &[u8; 2048], n: usize, k: usize, rows: &mut [u32])
+fn edge_rows(automaton: &Automaton, n: usize, k: usize, rows: &mut [u32])
     requires { (n ≤ 32) × (k ≤ 16) × (n ≤ length rows.old) }
     ensures first { (q r : ℕ) → q < n → r < 32
-        → row_has rows.new q r ≡ some (λ a. transition_in transitions.now q a r) k 0 }
+        → row_has rows.new q r ≡ some (λ a. transition_bit automaton.now q a r) k 0 }
     ensures others { (q : ℕ) → n ≤ q → get_or rows.new q 0 ≡ get_or rows.old q 0 }
 {
     let mut q: usize = 0;
     while q < n {
-        rows[q] = edges(transitions, k, q);
+        rows[q] = edges(automaton, k, q);
         q += 1;
     }
 }
@@ -93,29 +92,26 @@ fn dead_among(rows: &[u32], n: usize, reached: u32, loops: u32) -> u32
     found
 }
 
-// The set of dead states of the automaton with this head and these transitions.
-pub fn dead_set(head: Head, transitions: &[u8; 2048]) -> u32
-    requires { InRange (whole_of head transitions.now) }
-    ensures { (q : ℕ) → q < 32 → bit result q ≡ get_or (dead_states (whole_of head transitions.now)) q false }
+// The set of dead states.
+pub fn dead_set(valid: Valid) -> u32
+    ensures { (q : ℕ) → q < 32 → bit result q ≡ get_or (dead_states valid.entry.automaton.now) q false }
 {
-    let accepting = head.accepting;
-    let n = head.states;
-    let initial = head.initial;
+    let automaton = valid.automaton;
+    let n = automaton.states;
     let mut rows = [0u32; MAX_STATES];
-    edge_rows(transitions, n, head.letters, &mut rows);
+    edge_rows(automaton, n, automaton.letters, &mut rows);
     relations::close(&mut rows, n);
-    let loops = on_loops(&rows, n, relations::of_bytes(&accepting));
+    let loops = on_loops(&rows, n, relations::of_bytes(&automaton.accepting));
     relations::add_diagonal(&mut rows, n);
-    let reached = rows[initial];
+    let reached = rows[automaton.initial];
     dead_among(&rows, n, reached, loops)
 }
 
-// Whether the automaton with this head and these transitions has a dead state.
-pub fn has_dead(head: Head, transitions: &[u8; 2048]) -> bool
-    requires { InRange (whole_of head transitions.now) }
-    ensures { result ≡ has_dead (whole_of head transitions.now) }
+// Whether there is a dead state.
+pub fn has_dead(valid: Valid) -> bool
+    ensures { result ≡ has_dead valid.entry.automaton.now }
 {
-    relations::has_state(dead_set(head, transitions))
+    relations::has_state(dead_set(valid))
 }
 
 // For each of the 32 states whether the set has it.
@@ -132,9 +128,8 @@ fn flags(set: u32) -> [bool; MAX_STATES]
 }
 
 // For each of the 32 states whether it is dead.
-pub fn dead_states(head: Head, transitions: &[u8; 2048]) -> [bool; MAX_STATES]
-    requires { InRange (whole_of head transitions.now) }
-    ensures { result ≡ dead_states (whole_of head transitions.now) }
+pub fn dead_states(valid: Valid) -> [bool; MAX_STATES]
+    ensures { result ≡ dead_states valid.entry.automaton.now }
 {
-    flags(dead_set(head, transitions))
+    flags(dead_set(valid))
 }

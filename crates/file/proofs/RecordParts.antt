@@ -1,5 +1,6 @@
 -- The parts of a reading as the code goes through them: the header's tests, what a record does to the header and the two sets of bytes, and how
 -- the reading goes on after it. Each law goes by the tests in their order. Assumes nothing.
+use Rattle.std.specs.Prelude.{Option, Some, None, Result, Ok, Err}
 use mathlib.Core.Path.{◌≡◌, sym, ap, subst, ◌∙◌}
 use mathlib.Core.Bool.{Bool, true, false, ◌&&◌}
 use mathlib.Core.List.{List}
@@ -9,23 +10,19 @@ use lib.Dec.{ltb}
 use lib.ListN.{length, get_or, replicate}
 use borrow.Author.Tests.{le-leb, lt-leb, lt-ltb, le-ltb}
 use Rattle.automaton.specs.declared.Automaton.{Automaton}
-use Rattle.automaton.specs.declared.Head.{Head}
 use Rattle.automaton.specs.Sets.{member}
-use Rattle.automaton.specs.Automata.{accepts, transition, bare, with_accepting, with_transition, whole_of, header_values}
-use Rattle.automaton.specs.Members.{transition_in, with_member, with_bit_for}
+use Rattle.automaton.specs.Automata.{accepts, transition, bare, with_accepting, with_transition, transition_bit, header_values}
 use Rattle.automaton.proofs.InRange.{header_values_iff}
 use Rattle.automaton.proofs.Bits.{bare_header}
 use Rattle.format.specs.declared.Record.{Record}
 use Rattle.format.specs.declared.Record.TheVariants.{Accepting, Transition}
 use Rattle.format.specs.Marks.{marked, header_mark}
 use Rattle.format.specs.Records.{record_in}
-use Rattle.file.specs.declared.Reading.{Reading}
-use Rattle.file.specs.declared.Header.{Header}
-use Rattle.file.specs.declared.Start.TheVariants.{NoHeader}
-use Rattle.file.specs.declared.Progress.{Progress}
-use Rattle.file.specs.declared.Progress.TheVariants.{Refused, Whole, Goes}
 use Rattle.format.specs.File.{Read, Step, over, next, refused, holds, check, header, takes, record_at, read_file}
-use Rattle.file.specs.Taking.{head_with, start_step, Headed, progress_step, automaton_after, automaton_read, RecordTaken, refusal_of}
+use Rattle.format.specs.declared.FileRefusal.{FileRefusal}
+use Rattle.format.specs.Numbers.{file_number}
+use Rattle.file.specs.declared.Header.{Header}
+use Rattle.file.specs.Taking.{started, Headed, progress_step, automaton_after, automaton_read, RecordTaken}
 use Rattle.format.proofs.RecordSteps.{HeaderStep, without_header, starts, header_step, record_advances}
 use Rattle.format.proofs.RecordSteps.{read_after, read_file_lem, read_over, read_next}
 use Rattle.file.proofs.LeftAutomata.{left_after, left_file, left_over, left_next, unheaded_automaton}
@@ -33,12 +30,12 @@ use Rattle.file.proofs.LeftAutomata.{left_after, left_file, left_over, left_next
 -- The step of a record that was read.
 
 -- what a record came to, with B left of A
-pub taken : {x : Step} (p : Progress) {A B : Automaton} → x ≡ progress_step p B → automaton_after (progress_step p B) A ≡ B → RecordTaken x p A B
+pub taken : {x : Step} (p : Result (Option ℕ) FileRefusal) {A B : Automaton} → x ≡ progress_step p B → automaton_after (progress_step p B) A ≡ B → RecordTaken x p A B
 taken p {A} e l = record { step = e; after = sym (ap (λ y. automaton_after y A) e ∙ l) }
 
-pub record_taken : (s : List ℕ) (i : ℕ) (A : Automaton) (x y : Record) {p : Progress} {B : Automaton} → x ≡ record_in s i → x ≡ y
+pub record_taken : (s : List ℕ) (i : ℕ) (A : Automaton) (x y : Result Record FileRefusal) {p : Result (Option ℕ) FileRefusal} {B : Automaton} → x ≡ record_in s i → x ≡ y
     → RecordTaken (takes y A) p A B → RecordTaken (record_at s i A) p A B
-record_taken s i A x y {p} {B} d e h = subst (λ (z : Record). RecordTaken (takes z A) p A B) (sym e ∙ d) h
+record_taken s i A x y {p} {B} d e h = subst (λ (z : Result Record FileRefusal). RecordTaken (takes z A) p A B) (sym e ∙ d) h
 
 -- The header.
 
@@ -65,35 +62,34 @@ module _ (s : List ℕ) where
 
 -- What a record does.
 
-module _ (h : Header) (s t : List ℕ) (j : ℕ) where
+module _ (A : Automaton) (j : ℕ) where
   module _ (q : ℕ) where
-    pub takes_unknown_state : h.states ≤ q → takes (Accepting q j) (whole_of (head_with h s) t) ≡ over (refused 4)
+    pub takes_unknown_state : A.states ≤ q → takes (Ok (Accepting q j)) A ≡ over (refused 4)
     unfolding takes
-    takes_unknown_state l = rw (le-ltb q h.states l)
+    takes_unknown_state l = rw (le-ltb q A.states l)
 
-    module _ (l : q < h.states) where
-      pub takes_repeated_state : member s q ≡ true → takes (Accepting q j) (whole_of (head_with h s) t) ≡ over (refused 5)
+    module _ (l : q < A.states) where
+      pub takes_repeated_state : member A.accepting q ≡ true → takes (Ok (Accepting q j)) A ≡ over (refused 5)
       unfolding takes accepts
-      takes_repeated_state e = rw (lt-ltb q h.states l, e)
+      takes_repeated_state e = rw (lt-ltb q A.states l, e)
 
-      pub takes_state : member s q ≡ false → takes (Accepting q j) (whole_of (head_with h s) t) ≡ next j (whole_of (head_with h (with_member s q)) t)
-      unfolding takes accepts with_accepting
-      takes_state e = rw (lt-ltb q h.states l, e)
+      pub takes_state : member A.accepting q ≡ false → takes (Ok (Accepting q j)) A ≡ next j (with_accepting A q)
+      unfolding takes accepts
+      takes_state e = rw (lt-ltb q A.states l, e)
 
   module _ (q a r : ℕ) where
-    pub takes_unknown : (ltb q h.states && ltb a h.letters && ltb r h.states) ≡ false
-        → takes (Transition q a r j) (whole_of (head_with h s) t) ≡ over (refused 4)
+    pub takes_unknown : (ltb q A.states && ltb a A.letters && ltb r A.states) ≡ false
+        → takes (Ok (Transition q a r j)) A ≡ over (refused 4)
     unfolding takes
     takes_unknown e = rw e
 
-    module _ (e : (ltb q h.states && ltb a h.letters && ltb r h.states) ≡ true) where
-      pub takes_repeated : transition_in t q a r ≡ true → takes (Transition q a r j) (whole_of (head_with h s) t) ≡ over (refused 5)
+    module _ (e : (ltb q A.states && ltb a A.letters && ltb r A.states) ≡ true) where
+      pub takes_repeated : transition_bit A q a r ≡ true → takes (Ok (Transition q a r j)) A ≡ over (refused 5)
       unfolding takes transition
       takes_repeated d = rw (e, d)
 
-      pub takes_transition : transition_in t q a r ≡ false
-          → takes (Transition q a r j) (whole_of (head_with h s) t) ≡ next j (whole_of (head_with h s) (with_bit_for t q a r))
-      unfolding takes transition with_transition
+      pub takes_transition : transition_bit A q a r ≡ false → takes (Ok (Transition q a r j)) A ≡ next j (with_transition A q a r)
+      unfolding takes transition
       takes_transition d = rw (e, d)
 
 -- The reading goes on after a record, or is over.
@@ -104,9 +100,9 @@ pub record ReadTo (s : List ℕ) (i : ℕ) (A : Automaton) : Type 0 where
   pub automaton : automaton_read s ≡ left_after s (record_at s i A) A
 
 -- the record at i comes to p, with B the automaton after it
-module _ (s : List ℕ) (i : ℕ) (A B : Automaton) (p : Progress) (to : ReadTo s i A) (t : RecordTaken (record_at s i A) p A B) where
-  came : {q : Progress} → p ≡ q → record_at s i A ≡ progress_step q B
-  came d = t.step ∙ ap (λ (x : Progress). progress_step x B) d
+module _ (s : List ℕ) (i : ℕ) (A B : Automaton) (p : Result (Option ℕ) FileRefusal) (to : ReadTo s i A) (t : RecordTaken (record_at s i A) p A B) where
+  came : {q : Result (Option ℕ) FileRefusal} → p ≡ q → record_at s i A ≡ progress_step q B
+  came d = t.step ∙ ap (λ (x : Result (Option ℕ) FileRefusal). progress_step x B) d
 
   reading_over : (x : Read) → record_at s i A ≡ over x → (read_file s ≡ x) × (automaton_read s ≡ B)
   reading_over x e = (
@@ -114,13 +110,13 @@ module _ (s : List ℕ) (i : ℕ) (A B : Automaton) (p : Progress) (to : ReadTo 
     to.automaton ∙ ap (λ (y : Step). left_after s y A) e ∙ left_over s x A ∙ sym (t.after ∙ ap (λ (y : Step). automaton_after y A) e),
   )
 
-  pub reading_refused : (n : ℕ) → p ≡ Refused n → (read_file s ≡ refused n) × (automaton_read s ≡ B)
-  reading_refused n d = reading_over (refused n) (came d)
+  pub reading_refused : (f : FileRefusal) → p ≡ Err f → (read_file s ≡ refused (file_number f)) × (automaton_read s ≡ B)
+  reading_refused f d = reading_over (refused (file_number f)) (came d)
 
-  pub reading_ends : p ≡ Whole → (read_file s ≡ holds B) × (automaton_read s ≡ B)
+  pub reading_ends : p ≡ Ok None → (read_file s ≡ holds B) × (automaton_read s ≡ B)
   reading_ends d = reading_over (holds B) (came d)
 
-  pub reading_advances : (j : ℕ) → p ≡ Goes j → (i + 3 ≤ j) × (j ≤ length s) × ReadTo s j B
+  pub reading_advances : (j : ℕ) → p ≡ Ok (Some j) → (i + 3 ≤ j) × (j ≤ length s) × ReadTo s j B
   reading_advances j d =
       let a = record_advances s i j A B (came d) in (
         a.0,
@@ -133,6 +129,11 @@ module _ (s : List ℕ) (i : ℕ) (A B : Automaton) (p : Progress) (to : ReadTo 
 
 -- What a header that is there says of its file.
 
+-- an automaton without transitions is begun as the bare one
+pub started_bare : (h : Header) (A : Automaton) → A.transitions ≡ replicate 2048 0 → started h A ≡ bare h.states h.letters h.initial
+unfolding bare
+started_bare h A e = rw e (λ i. bare h.states h.letters h.initial)
+
 abbrev Starts : List ℕ → Step → Type 0
 Starts s (over r) = Unit {0}
 Starts s (next j A) = (A.states ≤ 32) × (A.letters ≤ 16) × (5 ≤ length s)
@@ -144,39 +145,19 @@ step_starts (starts n k i t e v) =
     let h = bare_header n k i in
     (omega (arith, h.0, b.1), omega (arith, h.1, b.3), omega (arith, ap length e))
 
-module _ (s : List ℕ) (h : Header) (is : Headed s h) where
-  pub header_holds : (h.states ≤ 32) × (h.letters ≤ 16) × (5 ≤ length s)
-  header_holds =
-      let r = subst (Starts s) (sym is) (step_starts (header_step s)) in
-      let b = bare_header h.states h.letters h.initial in
-      (omega (arith, b.0, r.0), omega (arith, b.1, r.1), r.2)
+module _ (s : List ℕ) (A : Automaton) (is : Headed s A) where
+  pub header_holds : (A.states ≤ 32) × (A.letters ≤ 16) × (5 ≤ length s)
+  header_holds = subst (Starts s) (sym is) (step_starts (header_step s))
 
-  pub reading_starts : (t : List ℕ) → t ≡ replicate 2048 0 → ReadTo s 5 (whole_of (head_with h (replicate 4 0)) t)
-  unfolding bare
-  reading_starts t clear =
-      let A = bare h.states h.letters h.initial in
-      subst (λ (l : List ℕ). ReadTo s 5 (whole_of (head_with h (replicate 4 0)) l)) (sym clear)
+  pub reading_starts : ReadTo s 5 A
+  reading_starts =
       record {
         answer = read_file_lem s ∙ ap (read_after s) (sym is) ∙ read_next s 5 A;
         automaton = left_file s ∙ ap (λ (y : Step). left_after s y (bare 0 0 0)) (sym is) ∙ left_next s 5 A (bare 0 0 0);
       }
 
-abbrev no_header : Header
-no_header = record { states = 0; letters = 0; initial = 0 }
-
-pub reading_unstarted : (s : List ℕ) (n : ℕ) (t : List ℕ) → start_step (NoHeader n) ≡ header s → t ≡ replicate 2048 0
-    → (read_file s ≡ refused n) × (automaton_read s ≡ whole_of (head_with no_header (replicate 4 0)) t)
-unfolding bare
-reading_unstarted s n t d clear = (
-  read_file_lem s ∙ ap (read_after s) (sym d) ∙ read_over s (refused n),
-  unheaded_automaton s (refused n) (sym d) ∙ ap (whole_of (head_with no_header (replicate 4 0))) (sym clear),
-)
-
--- The answer of a reading that is over, with the head h and the transitions t.
-
-pub answered : (s : List ℕ) (x : Read) (h : Head) (t : List ℕ) (r : Reading) → (read_file s ≡ x) × (automaton_read s ≡ whole_of h t)
-    → (r.refusal ≡ refusal_of x) × (r.head ≡ h) → (r.refusal ≡ refusal_of (read_file s)) × (whole_of r.head t ≡ automaton_read s)
-answered s x h t r e d = (
-  d.0 ∙ sym (ap refusal_of e.0),
-  ap (λ (y : Head). whole_of y t) d.1 ∙ sym e.1,
+pub reading_unstarted : (s : List ℕ) (n : ℕ) → over (refused n) ≡ header s → (refused n ≡ read_file s) × (bare 0 0 0 ≡ automaton_read s)
+reading_unstarted s n d = (
+  sym (read_file_lem s ∙ ap (read_after s) (sym d) ∙ read_over s (refused n)),
+  sym (unheaded_automaton s (refused n) (sym d)),
 )

@@ -14,6 +14,8 @@ use Rattle.automaton.specs.Automata.{accepts, transition, bare, header_values}
 use Rattle.automaton.proofs.Booleans.{T_true, not_T_false}
 use Rattle.automaton.proofs.InRange.{in_header, in_header_iff}
 use Rattle.format.specs.declared.Record.{Record}
+use Rattle.format.specs.declared.FileRefusal.{FileRefusal}
+use Rattle.std.specs.Prelude.{Result}
 use Rattle.format.specs.Marks.{has, marked, header_mark, end_mark, HeaderMark, header_marked, RecordMark, end_marked}
 use Rattle.format.specs.Writing.{Item, accepting_item, transition_item, header_bytes, item_bytes, end_bytes}
 use Rattle.format.proofs.Stands.{record_of, Stands, short, cut, unknown, longer, item, end, record_stands, stands_record, item_fits, byte_now, byte_at, two_bytes, mark_bytes, bytes_marked, marked_bytes, not_has, rest_length, three_fields}
@@ -89,7 +91,7 @@ module _ (s : List ℕ) (i : ℕ) (A : Automaton) where
   unfolding takes
   record_step = go (record_stands s i)
     where
-      go : {x : Record} → Stands s i x → RecordStep s i A (takes x A)
+      go : {x : Result Record FileRefusal} → Stands s i x → RecordStep s i A (takes x A)
       go (short h) = fault (first (in_mark h))
       go (cut m e h) = fault (first (in_fields m e h))
       go (unknown e h) = fault (second (misplaced e h))
@@ -154,8 +156,8 @@ module _ (A : Automaton) (j : ℕ) where
   takes_more (transition_item q a r) w h = rw (T_true (in_header A q a r) ((in_header_iff A q a r).1 w), not_T_false (transition A q a r) h)
 
 module _ (s : List ℕ) (i : ℕ) (A : Automaton) where
-  stands_step : {x : Record} → Stands s i x → record_at s i A ≡ takes x A
-  stands_step h = ap (λ (x : Record). takes x A) (stands_record s i h)
+  stands_step : {x : Result Record FileRefusal} → Stands s i x → record_at s i A ≡ takes x A
+  stands_step h = ap (λ (x : Result Record FileRefusal). takes x A) (stands_record s i h)
 
   pub faulty_step : {n : ℕ} → Faulty A (drop i s) n → record_at s i A ≡ over (refused n)
   unfolding takes

@@ -1,5 +1,6 @@
 -- The reading of a record and its writing are inverse: `Stands` says by the bytes that are written which record stands at a position, and
 -- that is the record that is read there, and no other. Both ways go by the tests of the reading in their order. Assumes nothing.
+use Rattle.std.specs.Prelude.{Result, Ok, Err}
 use mathlib.Core.Path.{◌≡◌, refl, sym, ap, subst, ◌∙◌}
 use mathlib.Core.Bool.{Bool, true, false, cond}
 use mathlib.Core.List.{List, [], ◌∷◌, ◌++◌}
@@ -12,24 +13,26 @@ use lib.ListN.{length, get_or, drop, length-drop}
 use lib.Seq.{drop-cons, drop-drop, get_or-drop}
 use Rattle.automaton.proofs.Booleans.{and_both, both_and, is_true, not_T_false}
 use Rattle.format.specs.declared.Record.{Record}
-use Rattle.format.specs.declared.Record.TheVariants.{Fault, Accepting, Transition, End}
+use Rattle.format.specs.declared.Record.TheVariants.{Accepting, Transition, End}
+use Rattle.format.specs.declared.FileRefusal.{FileRefusal}
+use Rattle.format.specs.declared.FileRefusal.TheVariants.{CutShort, UnknownMark}
 use Rattle.format.specs.Marks.{has, marked, accepting_mark, transition_mark, end_mark, RecordMark, accepting_marked, transition_marked, end_marked}
 use Rattle.format.specs.Records.{check_record, record_in}
 use Rattle.format.specs.Writing.{Item, accepting_item, transition_item, item_bytes, end_bytes}
 
 -- the record of an item, with the position after it
-abbrev pub record_of : Item → ℕ → Record
-record_of (accepting_item q) j = Accepting q j
-record_of (transition_item q a r) j = Transition q a r j
+abbrev pub record_of : Item → ℕ → Result Record FileRefusal
+record_of (accepting_item q) j = Ok (Accepting q j)
+record_of (transition_item q a r) j = Ok (Transition q a r j)
 
 -- the record x stands at position i: its bytes are there, or those of a fault
-pub data Stands (s : List ℕ) (i : ℕ) : Record → Type 0 where
-  short : length (drop i s) < 2 → Stands s i (Fault 1)
-  cut : {m fields : ℕ} {t : List ℕ} → RecordMark m fields → drop i s ≡ 0x41 ∷ m ∷ t → length t < fields → Stands s i (Fault 1)
-  unknown : {x y : ℕ} {t : List ℕ} → drop i s ≡ x ∷ y ∷ t → ((fields : ℕ) → x ≡ 0x41 → RecordMark y fields → ⊥) → Stands s i (Fault 2)
-  longer : {z : ℕ} {t : List ℕ} → drop i s ≡ end_bytes ++ (z ∷ t) → Stands s i (Fault 2)
+pub data Stands (s : List ℕ) (i : ℕ) : Result Record FileRefusal → Type 0 where
+  short : length (drop i s) < 2 → Stands s i (Err CutShort)
+  cut : {m fields : ℕ} {t : List ℕ} → RecordMark m fields → drop i s ≡ 0x41 ∷ m ∷ t → length t < fields → Stands s i (Err CutShort)
+  unknown : {x y : ℕ} {t : List ℕ} → drop i s ≡ x ∷ y ∷ t → ((fields : ℕ) → x ≡ 0x41 → RecordMark y fields → ⊥) → Stands s i (Err UnknownMark)
+  longer : {z : ℕ} {t : List ℕ} → drop i s ≡ end_bytes ++ (z ∷ t) → Stands s i (Err UnknownMark)
   item : (x : Item) (t : List ℕ) → drop i s ≡ item_bytes x ++ t → Stands s i (record_of x (i + length (item_bytes x)))
-  end : drop i s ≡ end_bytes → Stands s i End
+  end : drop i s ≡ end_bytes → Stands s i (Ok End)
 
 -- The bytes at a position.
 
@@ -92,37 +95,37 @@ module _ (s : List ℕ) (i : ℕ) where
 
 -- What is read stands there.
 
-module _ (P : Record → Type 0) where
-  checked : (c : Bool) (n : ℕ) (x : Record) → ((T c → ⊥) → P (Fault n)) → (T c → P x) → P (check_record c n x)
+module _ (P : Result Record FileRefusal → Type 0) where
+  checked : (c : Bool) (n : FileRefusal) (x : Result Record FileRefusal) → ((T c → ⊥) → P (Err n)) → (T c → P x) → P (check_record c n x)
   checked true n x h k = k tt
   checked false n x h k = h (λ t. t)
 
-  decided : (c : Bool) (x y : Record) → (T c → P x) → ((T c → ⊥) → P y) → P (cond c x y)
+  decided : (c : Bool) (x y : Result Record FileRefusal) → (T c → P x) → ((T c → ⊥) → P y) → P (cond c x y)
   decided true x y h k = h tt
   decided false x y h k = k (λ t. t)
 
 module _ (s : List ℕ) (i : ℕ) where
   accepting_stands : T (marked s i accepting_mark) → i + 2 ≤ length s
-      → Stands s i (check_record (has s i 3) 1 (Accepting (get_or s (i + 2) 0) (i + 3)))
+      → Stands s i (check_record (has s i 3) CutShort (Ok (Accepting (get_or s (i + 2) 0) (i + 3))))
   accepting_stands m h =
       let b = marked_bytes s i accepting_mark m h in
-      checked (Stands s i) (has s i 3) 1 _ (λ g. cut accepting_marked b (rest_length s i 1 (omega arith) (omega (arith, not_has s i 3 g)))) λ g.
+      checked (Stands s i) (has s i 3) CutShort _ (λ g. cut accepting_marked b (rest_length s i 1 (omega arith) (omega (arith, not_has s i 3 g)))) λ g.
       let l = leb→le (i + 3) (length s) g in
       item (accepting_item (get_or s (i + 2) 0)) (drop (i + 3) s)
       (b ∙ ap (λ (t : List ℕ). 0x41 ∷ accepting_mark ∷ t) (next_byte s (i + 2) (i + 3) (omega arith) (omega arith)))
 
   transition_stands : T (marked s i transition_mark) → i + 2 ≤ length s
-      → Stands s i (check_record (has s i 5) 1 (Transition (get_or s (i + 2) 0) (get_or s (i + 3) 0) (get_or s (i + 4) 0) (i + 5)))
+      → Stands s i (check_record (has s i 5) CutShort (Ok (Transition (get_or s (i + 2) 0) (get_or s (i + 3) 0) (get_or s (i + 4) 0) (i + 5))))
   transition_stands m h =
       let b = marked_bytes s i transition_mark m h in
-      checked (Stands s i) (has s i 5) 1 _ (λ g. cut transition_marked b (rest_length s i 3 (omega arith) (omega (arith, not_has s i 5 g)))) λ g.
+      checked (Stands s i) (has s i 5) CutShort _ (λ g. cut transition_marked b (rest_length s i 3 (omega arith) (omega (arith, not_has s i 5 g)))) λ g.
       item (transition_item (get_or s (i + 2) 0) (get_or s (i + 3) 0) (get_or s (i + 4) 0)) (drop (i + 5) s)
       (b ∙ ap (λ (t : List ℕ). 0x41 ∷ transition_mark ∷ t) (three_fields s i (leb→le (i + 5) (length s) g)))
 
-  end_stands : T (marked s i end_mark) → i + 2 ≤ length s → Stands s i (check_record (eqb (length s) (i + 2)) 2 End)
+  end_stands : T (marked s i end_mark) → i + 2 ≤ length s → Stands s i (check_record (eqb (length s) (i + 2)) UnknownMark (Ok End))
   end_stands m h =
       let b = marked_bytes s i end_mark m h in
-      checked (Stands s i) (eqb (length s) (i + 2)) 2 _
+      checked (Stands s i) (eqb (length s) (i + 2)) UnknownMark _
       (λ e. longer (b ∙ ap (λ (t : List ℕ). 0x41 ∷ end_mark ∷ t)
       (drop-cons s (i + 2) 0 (past (λ d. e (is_true _ (eq-eqb (length s) (i + 2) d))) h)))) λ e.
       end (b ∙ ap (λ (t : List ℕ). 0x41 ∷ end_mark ∷ t) (none (drop (i + 2) s) (omega (arith, length-drop (i + 2) s, eqb→eq (length s) (i + 2) e))))
@@ -137,7 +140,7 @@ module _ (s : List ℕ) (i : ℕ) where
   pub record_stands : Stands s i (record_in s i)
   unfolding record_in
   record_stands =
-      checked (Stands s i) (has s i 2) 1 _ (λ h. short (omega (arith, length-drop i s, not_has s i 2 h))) λ h.
+      checked (Stands s i) (has s i 2) CutShort _ (λ h. short (omega (arith, length-drop i s, not_has s i 2 h))) λ h.
       let whole = leb→le (i + 2) (length s) h in
       decided (Stands s i) (marked s i accepting_mark) _ _ (λ m. accepting_stands m whole) λ no-accepting.
       decided (Stands s i) (marked s i transition_mark) _ _ (λ m. transition_stands m whole) λ no-transition.
@@ -152,7 +155,7 @@ module _ (s : List ℕ) (i : ℕ) where
 
   -- What stands there is read.
 
-  cut_read : {m : ℕ} {t : List ℕ} (fields : ℕ) → RecordMark m fields → drop i s ≡ 0x41 ∷ m ∷ t → length t < fields → record_in s i ≡ Fault 1
+  cut_read : {m : ℕ} {t : List ℕ} (fields : ℕ) → RecordMark m fields → drop i s ≡ 0x41 ∷ m ∷ t → length t < fields → record_in s i ≡ Err CutShort
   unfolding record_in
   cut_read fields accepting_marked e h =
       let b₀ : get_or s i 0 ≡ 0x41 = byte_now s i e in
@@ -167,7 +170,7 @@ module _ (s : List ℕ) (i : ℕ) where
   cut_read fields end_marked e h = absurd (omega arith)
 
   unknown_read : {x y : ℕ} {t : List ℕ} → drop i s ≡ x ∷ y ∷ t → ((fields : ℕ) → x ≡ 0x41 → RecordMark y fields → ⊥)
-      → record_in s i ≡ Fault 2
+      → record_in s i ≡ Err UnknownMark
   unfolding record_in
   unknown_read e h =
       let n = ap length e in
@@ -199,7 +202,7 @@ module _ (s : List ℕ) (i : ℕ) where
       let f : i + 5 ≤ length s = (item_fits s i (transition_item q a r) t e).1 in
       rw (b₀, b₁, b₂, b₃, b₄, le-leb (i + 2) (length s) (omega arith), le-leb (i + 5) (length s) f)
 
-  pub stands_record : {x : Record} → Stands s i x → record_in s i ≡ x
+  pub stands_record : {x : Result Record FileRefusal} → Stands s i x → record_in s i ≡ x
   unfolding record_in
   stands_record (short h) = rw (lt-leb (i + 2) (length s) (omega (arith, length-drop i s)))
   stands_record (cut {fields = fields} m e h) = cut_read fields m e h

@@ -9,11 +9,13 @@
 -- of another record are first what `record_in` of `Records` finds in its bytes, 1 or 2, then a state or a letter that the header
 -- lacks (4), then a repeat (5).
 -- Shown by `file_reads_as`, in the terms of the table of refusals. Assumes nothing.
-use Rattle.std.specs.Prelude.{Bool, true, false, ◌&&◌, not, List, ℕ, zero, suc, ltb, length, get_or}
+use Rattle.std.specs.Prelude.{Result, Ok, Err, Bool, true, false, ◌&&◌, not, List, ℕ, zero, suc, ltb, length, get_or}
 use Rattle.automaton.specs.declared.Automaton.{Automaton}
 use Rattle.automaton.specs.Automata.{accepts, transition, bare, with_accepting, with_transition, header_values}
 use Rattle.format.specs.declared.Record.{Record}
-use Rattle.format.specs.declared.Record.TheVariants.{Fault, Accepting, Transition, End}
+use Rattle.format.specs.declared.Record.TheVariants.{Accepting, Transition, End}
+use Rattle.format.specs.declared.FileRefusal.{FileRefusal}
+use Rattle.format.specs.Numbers.{file_number}
 use Rattle.format.specs.Marks.{has, marked, header_mark}
 use Rattle.format.specs.Records.{record_in}
 
@@ -40,17 +42,17 @@ header s =
     (next 5 (bare (get_or s 2 0) (get_or s 3 0) (get_or s 4 0))))))
 
 -- with j the position after the record
-unfoldable pub takes : Record → Automaton → Step
-takes (Fault n) A = over (refused n)
-takes (Accepting q j) A =
+unfoldable pub takes : Result Record FileRefusal → Automaton → Step
+takes (Err n) A = over (refused (file_number n))
+takes (Ok (Accepting q j)) A =
     check (ltb q A.states) 4
     (check (not (accepts A q)) 5
     (next j (with_accepting A q)))
-takes (Transition q a r j) A =
+takes (Ok (Transition q a r j)) A =
     check (ltb q A.states && ltb a A.letters && ltb r A.states) 4
     (check (not (transition A q a r)) 5
     (next j (with_transition A q a r)))
-takes End A = over (holds A)
+takes (Ok End) A = over (holds A)
 
 abbrev pub record_at : List ℕ → ℕ → Automaton → Step
 record_at s i A = takes (record_in s i) A

@@ -3,31 +3,33 @@
 --   accepting_record, transition_record, end_record  the record at a position, by its mark
 --   record_in s i                                  the record at position i
 -- Shown by `record_stands` and `stands_record`: it is the record whose bytes, as `Writing` has them, stand at i. Assumes nothing.
-use Rattle.std.specs.Prelude.{Bool, true, false, cond, List, ℕ, ◌+◌, eqb, length, get_or}
+use Rattle.std.specs.Prelude.{Bool, true, false, cond, List, ℕ, ◌+◌, eqb, length, get_or, Result, Ok, Err}
 use Rattle.format.specs.declared.Record.{Record}
-use Rattle.format.specs.declared.Record.TheVariants.{Fault, Accepting, Transition, End}
+use Rattle.format.specs.declared.Record.TheVariants.{Accepting, Transition, End}
+use Rattle.format.specs.declared.FileRefusal.{FileRefusal}
+use Rattle.format.specs.declared.FileRefusal.TheVariants.{CutShort, UnknownMark}
 use Rattle.format.specs.Marks.{has, marked, accepting_mark, transition_mark, end_mark}
 
 -- the record is there where the test passes; else a refusal
-abbrev pub check_record : Bool → ℕ → Record → Record
+abbrev pub check_record : Bool → FileRefusal → Result Record FileRefusal → Result Record FileRefusal
 check_record true n x = x
-check_record false n x = Fault n
+check_record false n x = Err n
 
 -- one field, a state
-abbrev pub accepting_record : List ℕ → ℕ → Record
-accepting_record s i = check_record (has s i 3) 1 (Accepting (get_or s (i + 2) 0) (i + 3))
+abbrev pub accepting_record : List ℕ → ℕ → Result Record FileRefusal
+accepting_record s i = check_record (has s i 3) CutShort (Ok (Accepting (get_or s (i + 2) 0) (i + 3)))
 
 -- three fields: the state that it starts from, the letter, the target
-abbrev pub transition_record : List ℕ → ℕ → Record
-transition_record s i = check_record (has s i 5) 1 (Transition (get_or s (i + 2) 0) (get_or s (i + 3) 0) (get_or s (i + 4) 0) (i + 5))
+abbrev pub transition_record : List ℕ → ℕ → Result Record FileRefusal
+transition_record s i = check_record (has s i 5) CutShort (Ok (Transition (get_or s (i + 2) 0) (get_or s (i + 3) 0) (get_or s (i + 4) 0) (i + 5)))
 
 -- no field, and the file is over
-abbrev pub end_record : List ℕ → ℕ → Record
-end_record s i = check_record (eqb (length s) (i + 2)) 2 End
+abbrev pub end_record : List ℕ → ℕ → Result Record FileRefusal
+end_record s i = check_record (eqb (length s) (i + 2)) UnknownMark (Ok End)
 
-unfoldable pub record_in : List ℕ → ℕ → Record
+unfoldable pub record_in : List ℕ → ℕ → Result Record FileRefusal
 record_in s i =
-    check_record (has s i 2) 1
+    check_record (has s i 2) CutShort
     (cond (marked s i accepting_mark) (accepting_record s i)
     (cond (marked s i transition_mark) (transition_record s i)
-    (cond (marked s i end_mark) (end_record s i) (Fault 2))))
+    (cond (marked s i end_mark) (end_record s i) (Err UnknownMark))))

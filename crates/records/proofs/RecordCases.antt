@@ -6,22 +6,23 @@ use Prim.Native.Nat.{ℕ, ◌+◌, ◌-◌, ◌≤◌, ◌<◌}
 use native.Mathlib.Omega.{arith}
 use lib.ListN.{length, get_or}
 use borrow.Author.Tests.{le-leb, lt-leb, ne_eqb}
-use Rattle.format.specs.declared.Record.TheVariants.{Fault}
+use Rattle.std.specs.Prelude.{Err}
+use Rattle.format.specs.declared.FileRefusal.TheVariants.{CutShort, UnknownMark}
 use Rattle.format.specs.Records.{accepting_record, transition_record, end_record, record_in}
 
 module _ (s : List ℕ) (i : ℕ) where
-  pub record_short : length s - i < 2 → record_in s i ≡ Fault 1
+  pub record_short : length s - i < 2 → record_in s i ≡ Err CutShort
   unfolding record_in
   record_short h = rw (lt-leb (i + 2) (length s) (omega arith))
 
   module _ (h : i + 2 ≤ length s) where
-    pub record_unmarked : (get_or s i 0 ≡ 0x41 → ⊥) → record_in s i ≡ Fault 2
+    pub record_unmarked : (get_or s i 0 ≡ 0x41 → ⊥) → record_in s i ≡ Err UnknownMark
     unfolding record_in
     record_unmarked e = rw (le-leb (i + 2) (length s) h, ne_eqb (get_or s i 0) 0x41 e)
 
     module _ (e : get_or s i 0 ≡ 0x41) where
       pub record_unknown : (get_or s (i + 1) 0 ≡ 0x46 → ⊥) → (get_or s (i + 1) 0 ≡ 0x54 → ⊥) → (get_or s (i + 1) 0 ≡ 0x45 → ⊥)
-          → record_in s i ≡ Fault 2
+          → record_in s i ≡ Err UnknownMark
       unfolding record_in
       record_unknown x y z =
           let b = get_or s (i + 1) 0 in

@@ -2,72 +2,71 @@
 ghost use Rattle.std.specs.Prelude.{◌≡◌, ◌-◌, ◌+◌, ◌≤◌, length};
 ghost use Rattle.format.specs.Records.{accepting_record, transition_record, end_record, record_in};
 
-use automaton::wide;
-use format::Record;
+use format::{FileRefusal, Record};
 
 // The number of bytes from a position on.
 fn remaining_from(file: &[u8], at: usize) -> usize
     ensures { result ≡ length file.now - at }
 {
-    if at < file.len() { file.len() - at } else { 0 }
+    file.len().saturating_sub(at)
 }
 
 // An accepting record whose mark stands at a position.
-fn accepting_at(file: &[u8], at: usize, remaining: usize) -> Record
+fn accepting_at(file: &[u8], at: usize, remaining: usize) -> Result<Record, FileRefusal>
     requires { (at + remaining ≡ length file.now) × (2 ≤ remaining) }
     ensures { result ≡ accepting_record file.now at }
 {
     if remaining < 3 {
-        return Record::Fault(1);
+        return Err(FileRefusal::CutShort);
     }
-    Record::Accepting {
-        state: wide(file[at + 2]),
+    Ok(Record::Accepting {
+        state: file[at + 2] as usize,
         next: at + 3,
-    }
+    })
 }
 
 // A transition record whose mark stands at a position.
-fn transition_at(file: &[u8], at: usize, remaining: usize) -> Record
+fn transition_at(file: &[u8], at: usize, remaining: usize) -> Result<Record, FileRefusal>
     requires { (at + remaining ≡ length file.now) × (2 ≤ remaining) }
     ensures { result ≡ transition_record file.now at }
 {
     if remaining < 5 {
-        return Record::Fault(1);
+        return Err(FileRefusal::CutShort);
     }
-    Record::Transition {
-        from: wide(file[at + 2]),
-        letter: wide(file[at + 3]),
-        to: wide(file[at + 4]),
+    Ok(Record::Transition {
+        from: file[at + 2] as usize,
+        letter: file[at + 3] as usize,
+        to: file[at + 4] as usize,
         next: at + 5,
-    }
+    })
 }
 
 // An end record whose mark stands at a position: no byte follows it.
-fn end_at(file: &[u8], at: usize, remaining: usize) -> Record
+fn end_at(file: &[u8], at: usize, remaining: usize) -> Result<Record, FileRefusal>
     requires { (at + remaining ≡ length file.now) × (2 ≤ remaining) }
     ensures { result ≡ end_record file.now at }
 {
     if remaining == 2 {
-        return Record::End;
+        return Ok(Record::End);
     }
-    Record::Fault(2)
+    Err(FileRefusal::UnknownMark)
 }
 
 // The record at a position past the header.
-pub fn record_at(file: &[u8], at: usize) -> Record
+pub fn record_at(file: &[u8], at: usize) -> Result<Record, FileRefusal>
     ensures { result ≡ record_in file.now at }
 {
     let remaining = remaining_from(file, at);
     if remaining < 2 {
-        return Record::Fault(1);
+        return Err(FileRefusal::CutShort);
     }
     if file[at] != 0x41 {
-        return Record::Fault(2);
+        return Err(FileRefusal::UnknownMark);
     }
     match file[at + 1] {
         0x46 => accepting_at(file, at, remaining),
         0x54 => transition_at(file, at, remaining),
         0x45 => end_at(file, at, remaining),
-        _ => Record::Fault(2),
+        _ => Err(FileRefusal::UnknownMark),
     }
 }

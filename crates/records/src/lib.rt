@@ -6,7 +6,7 @@ ghost use Rattle.format.specs.Records.{record_in};
 
 mod bytes;
 
-use format::Record;
+use format::{FileRefusal, Record};
 
 // A file, and the position in it where the next record stands.
 #[derive(Clone, Copy)]
@@ -24,7 +24,7 @@ impl<'a> Reader<'a> {
     }
 
     // The next record.
-    pub fn next_record(self) -> Record
+    pub fn next_record(self) -> Result<Record, FileRefusal>
         ensures { result ≡ record_in self.entry.file.now self.entry.at }
     {
         bytes::record_at(self.file, self.at)
@@ -32,7 +32,7 @@ impl<'a> Reader<'a> {
 }
 
 // The next record of a file from a position on, by its reader.
-pub fn record_from(file: &[u8], at: usize) -> Record
+pub fn record_from(file: &[u8], at: usize) -> Result<Record, FileRefusal>
     ensures { result ≡ record_in file.now at }
 {
     Reader::new(file, at).next_record()

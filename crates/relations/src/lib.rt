@@ -5,12 +5,11 @@
 ghost use Rattle.std.specs.Prelude.{◌≡◌, ◌&&◌, ◌||◌, [], ◌∷◌, ℕ, ◌-◌, ◌<◌, ◌≤◌, eqb, length};
 ghost use Rattle.automaton.specs.Ranges.{some, next_from, total};
 ghost use Rattle.automaton.specs.Sets.{bit, with_bit, member};
-ghost use Rattle.automaton.specs.Automata.{one};
-ghost use Rattle.automaton.specs.Members.{transition_in};
+ghost use Rattle.automaton.specs.Automata.{one, transition_bit};
 ghost use Rattle.relations.specs.Closure.{row_has};
 ghost use Rattle.relations.specs.Rows.{with_row, diagonal_rows, round_rows, closed_rows};
 
-use automaton::MAX_LETTERS;
+use automaton::{Automaton, MAX_LETTERS};
 
 // Whether state q is in the set.
 pub fn has(set: u32, q: usize) -> bool
@@ -51,16 +50,16 @@ pub fn of_bytes(set: &[u8; 4]) -> u32
 }
 
 // The targets of q on letter a.
-pub fn row(transitions: &[u8; 2048], q: usize, a: usize) -> u32
+pub fn row(automaton: &Automaton, q: usize, a: usize) -> u32
     requires { (q < 32) × (a < 16) }
-    ensures { (r : ℕ) → r < 32 → bit result r ≡ transition_in transitions.now q a r }
+    ensures { (r : ℕ) → r < 32 → bit result r ≡ transition_bit automaton.now q a r }
 {
     let at = (q * MAX_LETTERS + a) * 4;
     joined(
-        transitions[at],
-        transitions[at + 1],
-        transitions[at + 2],
-        transitions[at + 3],
+        automaton.transitions[at],
+        automaton.transitions[at + 1],
+        automaton.transitions[at + 2],
+        automaton.transitions[at + 3],
     )
 }
 

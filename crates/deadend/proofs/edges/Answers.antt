@@ -6,7 +6,7 @@ use native.Mathlib.Omega.{arith}
 use borrow.Author.Rules.{rules}
 use Rattle.automaton.specs.Ranges.{some}
 use Rattle.automaton.specs.Sets.{bit}
-use Rattle.automaton.specs.Members.{transition_in}
+use Rattle.automaton.specs.Automata.{transition_bit}
 use Rattle.automaton.proofs.Bits.{bit_zero, bit_of_or}
 use Rattle.relations.proofs.Rows.{some_none, some_more}
 use Rattle.deadend.proofs.edges.Goals as goal

@@ -6,13 +6,13 @@ use native.Mathlib.Omega.{arith}
 use borrow.Author.Rules.{rules}
 use Rattle.automaton.specs.Ranges.{some}
 use Rattle.automaton.specs.Sets.{bit}
-use Rattle.automaton.specs.Members.{transition_in}
+use Rattle.automaton.specs.Automata.{transition_bit}
 use Rattle.automaton.proofs.Bits.{bit_zero, bit_of_or}
 use Rattle.relations.proofs.Rows.{some_none, some_more}
 use Rattle.deadend.proofs.edges.Given as goal
 
 abbrev pub invariant-loop-a : goal.invariant-loop-a
-invariant-loop-a l = (l.a ≤ l.k) × ((r : ℕ) → r < 32 → bit l.found r ≡ some (λ x. transition_in l.transitions l.q x r) l.a 0)
+invariant-loop-a l = (l.a ≤ l.k) × ((r : ℕ) → r < 32 → bit l.found r ≡ some (λ x. transition_bit l.automaton l.q x r) l.a 0)
 
 abbrev pub decreases-loop-a : goal.decreases-loop-a
 decreases-loop-a l = l.k - l.a

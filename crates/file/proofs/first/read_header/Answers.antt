@@ -1,6 +1,7 @@
 -- `read_header` meets its contract: its tests are those of the definition, in the same order. Assumes nothing.
 use mathlib.Core.Path.{sym}
 use native.Mathlib.Omega.{arith}
+use borrow.Author.Rules.{rules}
 use Rattle.file.proofs.RecordParts.{header_short, header_unmarked, header_cut, header_values_lem}
 use Rattle.file.proofs.first.read_header.Goals as goal
 
@@ -19,7 +20,7 @@ pub returns-then-header_values : goal.returns-then-header_values
 returns-then-header_values c =
     rw (
       header_values_lem c.args.file.now c.if-not-marked.false _ _ _ c.header_values.result (omega arith)
-          c.wide-states.ensures.0 c.wide-letters.ensures.0 c.wide-initial.ensures.0 c.header_values.ensures,
+          (search rules) (search rules) (search rules) c.header_values.ensures,
       c.if-header_values.true,
     )
 
@@ -27,6 +28,6 @@ pub returns : goal.returns
 returns c =
     rw (
       header_values_lem c.args.file.now c.if-not-marked.false _ _ _ c.header_values.result (omega arith)
-          c.wide-states.ensures.0 c.wide-letters.ensures.0 c.wide-initial.ensures.0 c.header_values.ensures,
+          (search rules) (search rules) (search rules) c.header_values.ensures,
       c.if-header_values.false,
     )
