@@ -12,8 +12,8 @@ use native.Mathlib.Omega.{arith}
 use Rattle.format.proofs.FileLaws.{file_refusals}
 use Rattle.graph.proofs.WalkTheorem.{list_word_length}
 use Rattle.slots.specs.Slots.{slot_count}
-use Rattle.answers.specs.declared.Outcome.{Outcome}
-use Rattle.answers.specs.declared.Outcome.TheVariants.{Refused}
+use Rattle.answers.specs.Outcomes.{Outcome}
+use Rattle.answers.specs.Outcomes.{Refused}
 use Rattle.checks.specs.Checks.{None, At}
 use Rattle.answers.specs.Contain.{outcome_of}
 use Rattle.answers.specs.Table.{contain_rows, contain_place}

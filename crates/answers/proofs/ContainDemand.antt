@@ -20,8 +20,8 @@ use Rattle.graph.specs.LagGraph.{max_bound}
 use Rattle.graph.specs.Walks.{walk_of, work_after, word_of, NeedsMore}
 use Rattle.graph.proofs.WalkTheorem.{walk_full, walk_full_front}
 use Rattle.graph.proofs.ListExists.{list_exists}
-use Rattle.answers.specs.declared.Outcome.TheVariants.{Compared}
-use Rattle.answers.specs.declared.Comparison.TheVariants.{Differs, NoRoom}
+use Rattle.answers.specs.Outcomes.{Compared}
+use Rattle.answers.specs.Outcomes.{Differs, NoRoom}
 use Rattle.answers.specs.Contain.{Contain, compare_with, comparing, after_walk, refusing, deciding, containing, outcome_of, work_of, word_buffer}
 use Rattle.answers.specs.Table.{Both}
 use Rattle.answers.specs.Demand1.{slots_over, FrontSlots, AfterContain, Demand1}

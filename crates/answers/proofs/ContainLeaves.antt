@@ -16,8 +16,8 @@ use Rattle.slots.specs.Slots.{slot_count}
 use Rattle.graph.specs.Discovery.{Walk, going, ended, full}
 use Rattle.graph.specs.LagGraph.{max_bound}
 use Rattle.graph.specs.Walks.{walk_of, word_of}
-use Rattle.answers.specs.declared.Outcome.TheVariants.{Compared}
-use Rattle.answers.specs.declared.Comparison.TheVariants.{Differs, NoRoom}
+use Rattle.answers.specs.Outcomes.{Compared}
+use Rattle.answers.specs.Outcomes.{Differs, NoRoom}
 use Rattle.answers.specs.Contain.{Contain, compare_with, comparing, after_walk, refusing, deciding, containing, part_length, outcome_of}
 use Rattle.checks.proofs.ChecksLaws.{by_test, by_read}
 

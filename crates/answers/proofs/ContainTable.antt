@@ -18,9 +18,9 @@ use Rattle.slots.specs.Slots.{slot_count}
 use Rattle.graph.specs.Discovery.{Node, Walk, going, ended, full}
 use Rattle.graph.specs.LagGraph.{max_bound}
 use Rattle.graph.specs.Walks.{walk_of, word_of}
-use Rattle.answers.specs.declared.Outcome.{Outcome}
-use Rattle.answers.specs.declared.Outcome.TheVariants.{Refused, Compared}
-use Rattle.answers.specs.declared.Comparison.TheVariants.{Differs, NoRoom}
+use Rattle.answers.specs.Outcomes.{Outcome}
+use Rattle.answers.specs.Outcomes.{Refused, Compared}
+use Rattle.answers.specs.Outcomes.{Differs, NoRoom}
 use Rattle.checks.specs.Checks.{First}
 use Rattle.answers.specs.Contain.{Contain, contained, differs, no_room, compare_with, after_walk, comparing, deciding, containing, refusing, outcome_of}
 use Rattle.answers.specs.Table.{contain_rows}

@@ -25,9 +25,9 @@ use Rattle.graph.specs.Discovery.{Node, Walk, going, ended, full}
 use Rattle.graph.specs.LagGraph.{max_bound}
 use Rattle.graph.specs.Walks.{walk_of, word_of, word_after, NeedsMore}
 use Rattle.graph.proofs.WalkTheorem.{walk_decides_containment, walk_decides_difference, walk_ended, list_contained, list_differs}
-use Rattle.answers.specs.declared.Outcome.{Outcome}
-use Rattle.answers.specs.declared.Outcome.TheVariants.{Refused, Compared}
-use Rattle.answers.specs.declared.Comparison.TheVariants.{Differs, NoRoom}
+use Rattle.answers.specs.Outcomes.{Outcome}
+use Rattle.answers.specs.Outcomes.{Refused, Compared}
+use Rattle.answers.specs.Outcomes.{Differs, NoRoom}
 use Rattle.checks.specs.Checks.{None}
 use Rattle.answers.specs.Contain.{contained, differs, no_slots, no_room, compare_with, comparison, Contain, comparing, after_walk, deciding, containing, outcome_of, word_buffer}
 use Rattle.answers.specs.Table.{Final, Whole, contain_rows}

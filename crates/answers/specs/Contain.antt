@@ -19,10 +19,10 @@ use Rattle.graph.specs.Discovery.{Walk, going, ended, full}
 use Rattle.graph.specs.LagGraph.{max_bound}
 use Rattle.graph.specs.Walks.{walk_of, work_after, word_of, word_after}
 use Rattle.checks.specs.Checks.{on_read}
-use Rattle.answers.specs.declared.Comparison.{Comparison}
-use Rattle.answers.specs.declared.Comparison.TheVariants.{Contained, Differs, NoSlots, NoRoom}
-use Rattle.answers.specs.declared.Outcome.{Outcome}
-use Rattle.answers.specs.declared.Outcome.TheVariants.{Refused, Compared}
+use Rattle.answers.specs.Outcomes.{Comparison}
+use Rattle.answers.specs.Outcomes.{Contained, Differs, NoSlots, NoRoom}
+use Rattle.answers.specs.Outcomes.{Outcome}
+use Rattle.answers.specs.Outcomes.{Refused, Compared}
 
 abbrev pub contained : ℕ → Outcome
 contained n = Compared (Contained n)

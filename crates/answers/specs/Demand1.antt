@@ -15,9 +15,9 @@ use Rattle.slots.specs.Slots.{slot_size, slot_count}
 use Rattle.graph.specs.Discovery.{Node, Walk, nodes_of, DiscoveryList}
 use Rattle.graph.specs.LagGraph.{lag_graph}
 use Rattle.graph.specs.Walks.{slots_of, word_of}
-use Rattle.answers.specs.declared.Outcome.{Outcome}
-use Rattle.answers.specs.declared.Outcome.TheVariants.{Refused, Compared}
-use Rattle.answers.specs.declared.Comparison.TheVariants.{Contained, Differs, NoSlots, NoRoom}
+use Rattle.answers.specs.Outcomes.{Outcome}
+use Rattle.answers.specs.Outcomes.{Refused, Compared}
+use Rattle.answers.specs.Outcomes.{Contained, Differs, NoSlots, NoRoom}
 use Rattle.checks.specs.Checks.{First}
 use Rattle.answers.specs.Contain.{outcome_of, work_of, word_buffer}
 use Rattle.answers.specs.Table.{Both, Final, Whole, contain_rows}

@@ -16,9 +16,9 @@ use Rattle.slots.specs.Slots.{slot_count}
 use Rattle.graph.specs.Discovery.{Node, going, ended}
 use Rattle.graph.specs.LagGraph.{max_bound}
 use Rattle.graph.specs.Walks.{word_of, Fits, NeedsMore}
-use Rattle.answers.specs.declared.Comparison.TheVariants.{Contained, Differs, NoSlots, NoRoom}
-use Rattle.answers.specs.declared.Outcome.{Outcome}
-use Rattle.answers.specs.declared.Outcome.TheVariants.{Refused, Compared}
+use Rattle.answers.specs.Outcomes.{Contained, Differs, NoSlots, NoRoom}
+use Rattle.answers.specs.Outcomes.{Outcome}
+use Rattle.answers.specs.Outcomes.{Refused, Compared}
 use Rattle.checks.specs.Checks.{Row, answers, answers_by, answers_by₂}
 use Rattle.answers.specs.Contain.{contained, differs, no_slots, no_room}
 

@@ -2,19 +2,31 @@
 // the answers; the crate `contain` has it.
 #![tactic(auto)]
 
-// What the walk of two automata comes to: the number of vertices, none of which is final; the final vertex's place and its word's length;
-// refusal 10 with the slots; refusal 11 with the length needed.
-#[derive(Clone, Copy)]
-pub enum Comparison {
+use format::FileRefusal;
+
+// What the walk of two automata finds: no final vertex among so many, or one at a place, whose word has so many letters.
+#[derive(Clone, Copy, Debug, PartialEq, Eq)]
+pub enum Containment {
     Contained(usize),
-    Differs(usize, usize),
+    Differs { place: usize, len: usize },
+}
+
+// Why a walk gives no answer: it does not fit so many slots (refusal 10), or its word, so long, does not fit the word buffer (refusal 11).
+#[derive(Clone, Copy, Debug, PartialEq, Eq)]
+pub enum WalkRefusal {
     NoSlots(usize),
     NoRoom(usize),
 }
 
-// What contain answers: a refusal 1 to 8 with the file, 1 or 2, and 0 where none is meant; or what the walk comes to.
-#[derive(Clone, Copy)]
-pub enum Outcome {
-    Refused(usize, usize),
-    Compared(Comparison),
+// Why contain gives no answer: the first file or the second is not read (1 to 5), the bound is above the largest (8), the letter counts differ (7), one of
+// the two automata has a dead state (6), or the walk gives none (10 or 11).
+#[derive(Clone, Copy, Debug, PartialEq, Eq)]
+pub enum ContainRefusal {
+    First(FileRefusal),
+    Second(FileRefusal),
+    Bound,
+    Letters,
+    FirstDead,
+    SecondDead,
+    Walk(WalkRefusal),
 }

@@ -10,9 +10,9 @@ use borrow.Author.Tests.{ne_eqb}
 use lib.Dec.{eqb}
 use lib.ListN.{length}
 use Rattle.slots.specs.Slots.{max_slots, slot_count}
-use Rattle.answers.specs.declared.Outcome.{Outcome}
-use Rattle.answers.specs.declared.Outcome.TheVariants.{Refused, Compared}
-use Rattle.answers.specs.declared.Comparison.TheVariants.{Contained, Differs, NoSlots, NoRoom}
+use Rattle.answers.specs.Outcomes.{Outcome}
+use Rattle.answers.specs.Outcomes.{Refused, Compared}
+use Rattle.answers.specs.Outcomes.{Contained, Differs, NoSlots, NoRoom}
 use Rattle.answers.specs.Contain.{contained, differs, no_slots, no_room, outcome_of}
 use Rattle.boundary.specs.Numbers.{packed, outcome_number}
 use Rattle.answers.specs.Demand1.{ContainRefusal, Listed}

@@ -5,9 +5,9 @@ use native.Mathlib.Nat.{min-le_right}
 use native.Mathlib.Omega.{arith}
 use lib.ListN.{length}
 use Rattle.slots.specs.Slots.{max_slots, slot_count}
-use Rattle.answers.specs.declared.Outcome.{Outcome}
-use Rattle.answers.specs.declared.Outcome.TheVariants.{Refused, Compared}
-use Rattle.answers.specs.declared.Comparison.TheVariants.{Contained, Differs, NoSlots, NoRoom}
+use Rattle.answers.specs.Outcomes.{Outcome}
+use Rattle.answers.specs.Outcomes.{Refused, Compared}
+use Rattle.answers.specs.Outcomes.{Contained, Differs, NoSlots, NoRoom}
 use Rattle.answers.specs.Contain.{outcome_of}
 use Rattle.answers.specs.Demand1.{ContainRefusal, first_file, second_file, bound, letters, first_dead, second_dead, Listed}
 use Rattle.answers.proofs.ContainAnswers.{contain_numbers}

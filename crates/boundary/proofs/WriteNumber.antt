@@ -6,8 +6,8 @@ use mathlib.Core.Logic.{◌↔◌, ⊎_elim}
 use Prim.Native.Nat.{ℕ, ◌^◌, ◌≤◌, ◌<◌}
 use native.Mathlib.Omega.{arith}
 use lib.ListN.{length}
-use Rattle.fixed_form.specs.declared.WriteAnswer.{WriteAnswer}
-use Rattle.fixed_form.specs.declared.WriteAnswer.TheVariants.{Wrote, Refused, NoRoom}
+use Rattle.fixed_form.specs.WriteAnswers.{WriteAnswer}
+use Rattle.fixed_form.specs.WriteAnswers.{Wrote, Refused, NoRoom}
 use Rattle.fixed_form.specs.Write.{write_of}
 use Rattle.fixed_form.specs.WriteDemand.{longest_file, WriteListed}
 use Rattle.fixed_form.proofs.WriteTable.{write_occurs}

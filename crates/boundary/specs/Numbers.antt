@@ -10,17 +10,17 @@
 --   write_number    kind + 2^8 length; kind 0 written, 100 + n refusal n, 116 with the length needed
 -- Shown by `contain_number`, `open_number_lem`, `offer_number_lem`, `verdict_number_lem`, `write_number_lem` and `hanoi_number`. Assumes nothing.
 use Rattle.std.specs.Prelude.{ℕ, ◌+◌, ◌*◌, ◌^◌, eqb, cond}
-use Rattle.answers.specs.declared.Comparison.TheVariants.{Contained, Differs, NoSlots as Unslotted, NoRoom as Roomless}
-use Rattle.answers.specs.declared.Outcome.{Outcome}
-use Rattle.answers.specs.declared.Outcome.TheVariants.{Refused as Stopped, Compared}
-use Rattle.fixed_form.specs.declared.WriteAnswer.{WriteAnswer}
-use Rattle.fixed_form.specs.declared.WriteAnswer.TheVariants.{Wrote, Refused as WriteRefused, NoRoom as WriteRoomless}
-use Rattle.history.specs.declared.OpenAnswer.{OpenAnswer}
-use Rattle.history.specs.declared.OpenAnswer.TheVariants.{Opened, Refused as OpenRefused}
-use Rattle.history.specs.declared.OfferAnswer.{OfferAnswer}
-use Rattle.history.specs.declared.OfferAnswer.TheVariants.{Taken, Forward, Back, Refused, NoSlots, NoRoom}
-use Rattle.history.specs.declared.VerdictAnswer.{VerdictAnswer}
-use Rattle.history.specs.declared.VerdictAnswer.TheVariants.{Yes, No, Refused as VerdictRefused}
+use Rattle.answers.specs.Outcomes.{Contained, Differs, NoSlots as Unslotted, NoRoom as Roomless}
+use Rattle.answers.specs.Outcomes.{Outcome}
+use Rattle.answers.specs.Outcomes.{Refused as Stopped, Compared}
+use Rattle.fixed_form.specs.WriteAnswers.{WriteAnswer}
+use Rattle.fixed_form.specs.WriteAnswers.{Wrote, Refused as WriteRefused, NoRoom as WriteRoomless}
+use Rattle.history.specs.OpenAnswers.{OpenAnswer}
+use Rattle.history.specs.OpenAnswers.{Opened, Refused as OpenRefused}
+use Rattle.history.specs.OfferAnswers.{OfferAnswer}
+use Rattle.history.specs.OfferAnswers.{Taken, Forward, Back, Refused, NoSlots, NoRoom}
+use Rattle.history.specs.VerdictAnswers.{VerdictAnswer}
+use Rattle.history.specs.VerdictAnswers.{Yes, No, Refused as VerdictRefused}
 
 abbrev pub packed : ℕ → ℕ → ℕ → ℕ
 packed kind count len = kind + 256 * count + 16777216 * len

@@ -1,7 +1,7 @@
 // The numbers that stand for answers.
 ghost use Rattle.std.specs.Prelude.{◌≡◌, ◌<◌, ◌^◌};
-ghost use Rattle.answers.specs.declared.Outcome.TheVariants.{Compared};
-ghost use Rattle.history.specs.declared.OfferAnswer.TheVariants.{NoSlots};
+ghost use Rattle.answers.specs.Outcomes.{Compared};
+ghost use Rattle.history.specs.OfferAnswers.{NoSlots};
 ghost use Rattle.boundary.specs.Numbers.{packed, outcome_number, open_number, packed_offer, offer_number, verdict_number, write_number};
 
 use answers::{Comparison, Outcome};

@@ -20,7 +20,7 @@ use Rattle.graph.specs.Walks as walks
 use Rattle.checks.specs.Checks.{None, on_read}
 use Rattle.answers.specs.Contain as contain
 use Rattle.history.specs.declared.Entry.{Entry}
-use Rattle.history.specs.declared.OfferAnswer.TheVariants.{Taken}
+use Rattle.history.specs.OfferAnswers.{Taken}
 use Rattle.history.specs.Entries as entries
 use Rattle.history.specs.Entries.{fresh_entry, WellFormed, malformed}
 use Rattle.history.specs.Opens as opens

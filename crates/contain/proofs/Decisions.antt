@@ -9,9 +9,9 @@ use Rattle.automaton.specs.declared.Automaton.{Automaton}
 use Rattle.format.specs.File.{refused, holds, read_file}
 use Rattle.deadstates.specs.DeadEnds.{has_dead}
 use Rattle.graph.specs.LagGraph.{max_bound}
-use Rattle.answers.specs.declared.Outcome.{Outcome}
-use Rattle.answers.specs.declared.Outcome.TheVariants.{Refused, Compared}
-use Rattle.answers.specs.declared.Comparison.{Comparison}
+use Rattle.answers.specs.Outcomes.{Outcome}
+use Rattle.answers.specs.Outcomes.{Refused, Compared}
+use Rattle.answers.specs.Outcomes.{Comparison}
 use Rattle.answers.specs.Contain.{Contain, comparing, after_walk, refusing, deciding, containing}
 
 -- the three parts of what a call gives

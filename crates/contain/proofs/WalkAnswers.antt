@@ -13,7 +13,7 @@ use Rattle.graph.specs.Discovery.{Node, Walk, going, ended, full}
 use Rattle.graph.specs.Walks.{walk_of, work_after, word_of, word_after}
 use Rattle.discovery.specs.Representation.{walked_of}
 use Rattle.walk.proofs.FinalWords.{FoundFinal}
-use Rattle.answers.specs.declared.Comparison.TheVariants.{Contained, NoSlots}
+use Rattle.answers.specs.Outcomes.{Contained, NoSlots}
 use Rattle.answers.specs.Contain.{differing, comparison, walk_word}
 
 -- the walk ended with the final vertex that the answer tells

@@ -4,10 +4,10 @@ use mathlib.Core.Path.{◌≡◌, ap, ap₂, ◌∙◌}
 use mathlib.Core.List.{List}
 use Prim.Native.Nat.{ℕ}
 use Rattle.automaton.specs.declared.Automaton.{Automaton}
-use Rattle.answers.specs.declared.Comparison.{Comparison}
-use Rattle.answers.specs.declared.Comparison.TheVariants.{Contained, Differs, NoSlots, NoRoom}
+use Rattle.answers.specs.Outcomes.{Comparison}
+use Rattle.answers.specs.Outcomes.{Contained, Differs, NoSlots, NoRoom}
 use Rattle.answers.specs.Contain.{comparing}
-use Rattle.history.specs.declared.OfferAnswer.{OfferAnswer}
+use Rattle.history.specs.OfferAnswers.{OfferAnswer}
 use Rattle.history.specs.Offers.{Walks, back_answer, offer_answer, last_made, walks_of, walks_answer, walks_work, walks_word}
 
 -- the walk does not find containment

@@ -13,8 +13,8 @@ use Rattle.checks.proofs.ChecksLaws.{by_test}
 use Rattle.history.specs.declared.Entry.{Entry}
 use Rattle.history.specs.Entries.{malformed}
 use Rattle.history.specs.Opens.{Vetted, stopped, passed}
-use Rattle.history.specs.declared.OfferAnswer.{OfferAnswer}
-use Rattle.history.specs.declared.OfferAnswer.TheVariants.{Refused}
+use Rattle.history.specs.OfferAnswers.{OfferAnswer}
+use Rattle.history.specs.OfferAnswers.{Refused}
 use Rattle.history.specs.Offers.{offer_vetting, offer_checks, walks_of, walks_answer, walks_work, walks_word, entry_on, offer_of}
 use Rattle.history.specs.OfferDemand.{OfferDemand1}
 use Rattle.history.proofs.CallDemands.{offer_demand_1}

@@ -8,7 +8,7 @@ use Rattle.format.specs.File.{refused, holds, read_file}
 use Rattle.deadstates.specs.DeadEnds.{has_dead}
 use Rattle.history.specs.declared.Entry.{Entry}
 use Rattle.history.specs.declared.EntryHead.{EntryHead}
-use Rattle.history.specs.declared.OpenAnswer.TheVariants.{Refused}
+use Rattle.history.specs.OpenAnswers.{Refused}
 use Rattle.history.specs.Entries.{entry_with, malformed}
 use Rattle.history.specs.Opens.{stopped, passed, open_checks, opened, open_of}
 use Rattle.entry.specs.declared.OpenResult.{OpenResult}

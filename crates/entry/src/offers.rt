@@ -17,7 +17,7 @@ ghost use Rattle.history.specs.Offers.{
   part_length,
 };
 ghost use Rattle.history.specs.OfferDemand.{OfferDemand1};
-ghost use Rattle.history.specs.declared.OfferAnswer.TheVariants.{Refused};
+ghost use Rattle.history.specs.OfferAnswers.{Refused};
 ghost use Rattle.entry.specs.Vetting.{vetted_by};
 
 use crate::OfferResult;

@@ -4,7 +4,7 @@ ghost use Rattle.automaton.specs.Automata.{whole_of};
 ghost use Rattle.history.specs.Entries.{entry_with};
 ghost use Rattle.history.specs.OpenDemand.{OpenDemand1};
 ghost use Rattle.history.specs.Opens.{first_edition, open_of};
-ghost use Rattle.history.specs.declared.OpenAnswer.TheVariants.{Refused};
+ghost use Rattle.history.specs.OpenAnswers.{Refused};
 
 use crate::OpenResult;
 use automaton::Head;

@@ -14,8 +14,8 @@ use Rattle.format.proofs.FileLaws.{file_refusals, file_in_range, read_not_both}
 use Rattle.checks.specs.Checks.{First, None, At}
 use Rattle.checks.proofs.ChecksLaws.{by_test, by_read, Functional, also, later, same_number, same_answer, first_answer, Placed, first_at}
 use Rattle.checks.proofs.FileRows.{refused_by, refused_read, refusal_same, file_of, file_at, file_same}
-use Rattle.fixed_form.specs.declared.WriteAnswer.{WriteAnswer}
-use Rattle.fixed_form.specs.declared.WriteAnswer.TheVariants.{Wrote, Refused, NoRoom}
+use Rattle.fixed_form.specs.WriteAnswers.{WriteAnswer}
+use Rattle.fixed_form.specs.WriteAnswers.{Wrote, Refused, NoRoom}
 use Rattle.fixed_form.specs.FixedForm.{written}
 use Rattle.fixed_form.specs.Write.{Write, writing, write_of}
 use Rattle.fixed_form.specs.WriteTable.{write_rows, write_place}

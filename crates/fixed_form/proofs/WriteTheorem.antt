@@ -12,7 +12,7 @@ use Rattle.format.proofs.FileRefusals.{file_reads_as}
 use Rattle.checks.specs.Checks.{FileHolds}
 use Rattle.checks.proofs.ChecksLaws.{by_test, by_read}
 use Rattle.checks.proofs.FileRows.{file_of}
-use Rattle.fixed_form.specs.declared.WriteAnswer.TheVariants.{Wrote}
+use Rattle.fixed_form.specs.WriteAnswers.{Wrote}
 use Rattle.fixed_form.specs.FixedForm.{FixedForm, written, SameAutomaton}
 use Rattle.fixed_form.specs.Write.{Write, writing, write_of}
 use Rattle.fixed_form.specs.WriteDemand.{AfterWrite, WriteDemand1, WriteAlike, WriteAgain}

@@ -12,8 +12,8 @@ use Rattle.automaton.specs.declared.Automaton.{Automaton}
 use Rattle.format.specs.File.{holds, read_file}
 use Rattle.format.specs.Refusals.{ReadsAs}
 use Rattle.checks.specs.Checks.{First, FileHolds}
-use Rattle.fixed_form.specs.declared.WriteAnswer.{WriteAnswer}
-use Rattle.fixed_form.specs.declared.WriteAnswer.TheVariants.{Wrote, Refused, NoRoom}
+use Rattle.fixed_form.specs.WriteAnswers.{WriteAnswer}
+use Rattle.fixed_form.specs.WriteAnswers.{Wrote, Refused, NoRoom}
 use Rattle.fixed_form.specs.FixedForm.{FixedForm, written, SameAutomaton}
 use Rattle.fixed_form.specs.Write.{write_of}
 use Rattle.fixed_form.specs.WriteTable.{write_rows}

@@ -1,11 +1,10 @@
 // The theory of the fixed form of a file (docs/reference.md, "The fixed form"): the file, the call that writes it, its table and its demand 1. There
-// is no code here but the type of the answer; the crate `writer` has it.
+// is no code here but the type of a refusal; the crate `writer` has it.
 #![tactic(auto)]
 
-// What a call that writes a file answers: the length written; the refusal of what it was to write; refusal 16 with the length needed.
-#[derive(Clone, Copy)]
-pub enum WriteAnswer {
-    Wrote(usize),
-    Refused(usize),
+// Why nothing is written: what was to be written is refused, or the buffer is too short, with the length needed (refusal 16).
+#[derive(Clone, Copy, Debug, PartialEq, Eq)]
+pub enum WriteRefusal<R> {
+    Unread(R),
     NoRoom(usize),
 }

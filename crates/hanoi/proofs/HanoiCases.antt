@@ -4,7 +4,7 @@ use mathlib.Core.Path.{◌≡◌, refl, ap, subst}
 use mathlib.Core.List.{List}
 use Prim.Native.Nat.{ℕ}
 use Rattle.automaton.specs.declared.Automaton.{Automaton}
-use Rattle.fixed_form.specs.declared.WriteAnswer.TheVariants.{Refused}
+use Rattle.fixed_form.specs.WriteAnswers.{Refused}
 use Rattle.fixed_form.specs.Write.{writing}
 use Rattle.hanoi.specs.Descriptions.{Description}
 use Rattle.hanoi.specs.Reading.{Read, refused, describes, read_hanoi}

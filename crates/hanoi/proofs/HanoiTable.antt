@@ -10,8 +10,8 @@ use lib.Dec.{ltb}
 use lib.ListN.{length, drop}
 use Rattle.checks.specs.Checks.{First}
 use Rattle.checks.proofs.ChecksLaws.{by_test, Functional, also, later, same_number, same_answer, first_answer}
-use Rattle.fixed_form.specs.declared.WriteAnswer.{WriteAnswer}
-use Rattle.fixed_form.specs.declared.WriteAnswer.TheVariants.{Wrote, Refused, NoRoom}
+use Rattle.fixed_form.specs.WriteAnswers.{WriteAnswer}
+use Rattle.fixed_form.specs.WriteAnswers.{Wrote, Refused, NoRoom}
 use Rattle.fixed_form.specs.FixedForm.{written}
 use Rattle.fixed_form.specs.Write.{Write, writing}
 use Rattle.hanoi.specs.Reading.{read_hanoi}

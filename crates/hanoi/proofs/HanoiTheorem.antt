@@ -9,7 +9,7 @@ use lib.ListN.{length, take, drop}
 use lib.Seq.{take_at}
 use Rattle.format.specs.File.{holds, read_file}
 use Rattle.checks.proofs.ChecksLaws.{by_test}
-use Rattle.fixed_form.specs.declared.WriteAnswer.TheVariants.{Wrote}
+use Rattle.fixed_form.specs.WriteAnswers.{Wrote}
 use Rattle.fixed_form.specs.FixedForm.{FixedForm, written}
 use Rattle.fixed_form.specs.Write.{Write, writing}
 use Rattle.fixed_form.specs.WriteDemand.{shortest_file, longest_file}

@@ -4,7 +4,7 @@
 --   hanoi_of s out  the whole call, of the text s
 -- Shown by `hanoi_demand_1`. Assumes nothing.
 use Rattle.std.specs.Prelude.{List, ℕ}
-use Rattle.fixed_form.specs.declared.WriteAnswer.TheVariants.{Refused}
+use Rattle.fixed_form.specs.WriteAnswers.{Refused}
 use Rattle.fixed_form.specs.Write.{Write, writing}
 use Rattle.hanoi.specs.Descriptions.{Description}
 use Rattle.hanoi.specs.Reading.{Read, refused, describes, read_hanoi}

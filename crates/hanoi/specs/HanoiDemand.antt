@@ -11,8 +11,8 @@ use Rattle.automaton.specs.declared.Automaton.{Automaton}
 use Rattle.automaton.specs.Automata.{accepts, transition}
 use Rattle.format.specs.File.{holds, read_file}
 use Rattle.checks.specs.Checks.{First}
-use Rattle.fixed_form.specs.declared.WriteAnswer.{WriteAnswer}
-use Rattle.fixed_form.specs.declared.WriteAnswer.TheVariants.{Wrote, Refused, NoRoom}
+use Rattle.fixed_form.specs.WriteAnswers.{WriteAnswer}
+use Rattle.fixed_form.specs.WriteAnswers.{Wrote, Refused, NoRoom}
 use Rattle.fixed_form.specs.FixedForm.{FixedForm, written}
 use Rattle.fixed_form.specs.WriteDemand.{shortest_file, longest_file}
 use Rattle.hanoi.specs.Descriptions.{Description}

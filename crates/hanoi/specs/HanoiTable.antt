@@ -6,8 +6,8 @@
 use Rattle.std.specs.Prelude.{◌≡◌, List, [], ◌∷◌, ℕ, ◌<◌, length}
 use Rattle.automaton.specs.declared.Automaton.{Automaton}
 use Rattle.checks.specs.Checks.{Row, answers_by}
-use Rattle.fixed_form.specs.declared.WriteAnswer.{WriteAnswer}
-use Rattle.fixed_form.specs.declared.WriteAnswer.TheVariants.{Wrote, Refused, NoRoom}
+use Rattle.fixed_form.specs.WriteAnswers.{WriteAnswer}
+use Rattle.fixed_form.specs.WriteAnswers.{Wrote, Refused, NoRoom}
 use Rattle.fixed_form.specs.FixedForm.{written}
 use Rattle.hanoi.specs.Descriptions.{Description}
 use Rattle.hanoi.specs.Grammar.{IsFile}

@@ -1,4 +1,5 @@
 -- Hanoi texts (02, S-2): words, descriptions, the reader, the grammar, the first fault, the automaton, and the call that writes it.
+pub mod Numbers
 pub mod Words
 pub mod Descriptions
 pub mod Reading

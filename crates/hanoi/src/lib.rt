@@ -1,3 +1,22 @@
 // The theory of Hanoi texts (docs/reference.md, "Hanoi texts"): the grammar, the first fault, the automaton that a text describes, the call that writes it, its
-// table and its demand 1. There is no code here; the crate `hanoi_reader` has it.
+// table and its demand 1. There is no code here but the type of a refusal and its number; the crate `hanoi_reader` has the rest.
 #![tactic(auto)]
+
+ghost use Rattle.std.specs.Prelude.{◌≡◌};
+ghost use Rattle.hanoi.specs.Numbers.{text_number};
+
+// Why a text is refused: refusals 3, 4, 17 and 18.
+#[derive(Clone, Copy, Debug, PartialEq, Eq)]
+pub enum TextRefusal {
+    HeaderValues = 3,
+    OutsideHeader,
+    OutsideSubset = 17,
+    ManyPropositions,
+}
+
+// The number of a text's refusal.
+pub fn text_number(refusal: TextRefusal) -> usize
+    ensures { result ≡ text_number refusal }
+{
+    refusal as usize
+}

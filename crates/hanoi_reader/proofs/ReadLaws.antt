@@ -9,8 +9,8 @@ use lib.ListN.{length, replicate}
 use Rattle.automaton.specs.declared.Automaton.{Automaton}
 use Rattle.automaton.specs.declared.Head.{Head}
 use Rattle.automaton.specs.Automata.{max_states, whole_of, bare, InRange}
-use Rattle.fixed_form.specs.declared.WriteAnswer.{WriteAnswer}
-use Rattle.fixed_form.specs.declared.WriteAnswer.TheVariants.{Refused as RefusedText}
+use Rattle.fixed_form.specs.WriteAnswers.{WriteAnswer}
+use Rattle.fixed_form.specs.WriteAnswers.{Refused as RefusedText}
 use Rattle.fixed_form.specs.Write.{Write, writing}
 use Rattle.hanoi.specs.Descriptions.{Description, headed}
 use Rattle.hanoi.specs.Reading.{Read, refused, describes, Step, over, next, header, part_at, body, read_hanoi}

@@ -21,7 +21,7 @@ use Rattle.checks.proofs.ChecksLaws.{by_test, by_read}
 use Rattle.answers.proofs.WalkRows.{whole_of, final_of}
 use Rattle.answers.proofs.ContainDemand.{full_front}
 use Rattle.history.specs.declared.Entry.{Entry}
-use Rattle.history.specs.declared.OfferAnswer.TheVariants.{Forward, Back, NoRoom}
+use Rattle.history.specs.OfferAnswers.{Forward, Back, NoRoom}
 use Rattle.history.specs.Entries.{malformed}
 use Rattle.history.specs.Opens.{Vetted, stopped, passed, open_checks, opened, open_of}
 use Rattle.history.specs.Offers.{Offer, offer_of}

@@ -15,8 +15,8 @@ use Rattle.format.proofs.FileLaws.{read_same}
 use Rattle.checks.specs.Checks.{First, None}
 use Rattle.checks.proofs.ChecksLaws.{none_first}
 use Rattle.history.specs.declared.Entry.{Entry}
-use Rattle.history.specs.declared.OpenAnswer.TheVariants.{Opened}
-use Rattle.history.specs.declared.OfferAnswer.TheVariants.{Refused}
+use Rattle.history.specs.OpenAnswers.{Opened}
+use Rattle.history.specs.OfferAnswers.{Refused}
 use Rattle.history.specs.Entries.{WellFormed}
 use Rattle.history.specs.Opens.{open_of}
 use Rattle.history.specs.Offers.{offer_of, is_taken}

@@ -19,7 +19,7 @@ use Rattle.runs.proofs.KeepsLassos.{containment_keeps_lassos}
 use Rattle.format.specs.File.{holds, read_file}
 use Rattle.format.proofs.FileLaws.{file_in_range}
 use Rattle.history.specs.declared.Entry.{Entry}
-use Rattle.history.specs.declared.OfferAnswer.TheVariants.{Refused}
+use Rattle.history.specs.OfferAnswers.{Refused}
 use Rattle.history.specs.Entries.{max_edition, WellFormed, Smaller}
 use Rattle.history.specs.Offers.{next_edition}
 use Rattle.history.specs.Account.{FirstEdition, last_of, holding, NextEdition}

@@ -11,7 +11,7 @@ use Rattle.format.proofs.FileLaws.{read_same}
 use Rattle.deadstates.specs.DeadEnds.{has_dead}
 use Rattle.checks.proofs.ChecksLaws.{by_test, by_read}
 use Rattle.history.specs.declared.Entry.{Entry}
-use Rattle.history.specs.declared.OpenAnswer.TheVariants.{Opened, Refused}
+use Rattle.history.specs.OpenAnswers.{Opened, Refused}
 use Rattle.history.specs.Entries.{malformed}
 use Rattle.history.specs.Opens.{Vetted, stopped, passed, open_checks, open_of, opened, first_edition}
 use Rattle.history.specs.Offers.{Offer, offer_of, entry_on, next_edition, is_taken}

@@ -22,8 +22,8 @@ use Rattle.answers.specs.Table.{Final, FinalAt, NoneFinal}
 use Rattle.checks.specs.Checks.{None, At}
 use Rattle.checks.proofs.ChecksLaws.{also, Every, first_every, Placed, first_at}
 use Rattle.history.specs.declared.Entry.{Entry}
-use Rattle.history.specs.declared.OfferAnswer.{OfferAnswer}
-use Rattle.history.specs.declared.OfferAnswer.TheVariants.{Refused}
+use Rattle.history.specs.OfferAnswers.{OfferAnswer}
+use Rattle.history.specs.OfferAnswers.{Refused}
 use Rattle.history.specs.Offers.{offer_of}
 use Rattle.history.specs.Tables.{offer_rows, offer_place}
 use Rattle.history.specs.OfferDemand.{malformed_entry, empty_entry, bad_file, bad_bound, other_letters, dead_state, not_smaller, forward_walk, back_walk, OfferListed}

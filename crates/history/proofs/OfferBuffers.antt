@@ -12,8 +12,8 @@ use Rattle.slots.specs.declared.Vertex.{Vertex}
 use Rattle.graph.specs.Discovery.{Walk, going, ended, full}
 use Rattle.graph.specs.Walks.{word_of}
 use Rattle.history.specs.declared.Entry.{Entry}
-use Rattle.history.specs.declared.OfferAnswer.{OfferAnswer}
-use Rattle.history.specs.declared.OfferAnswer.TheVariants.{Forward, Back, NoRoom}
+use Rattle.history.specs.OfferAnswers.{OfferAnswer}
+use Rattle.history.specs.OfferAnswers.{Forward, Back, NoRoom}
 use Rattle.history.specs.Offers.{Offer, offer_of, part_length}
 use Rattle.history.proofs.OfferCases.{walked, by_offer}
 

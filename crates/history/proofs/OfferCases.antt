@@ -17,7 +17,7 @@ use Rattle.graph.specs.LagGraph.{max_bound}
 use Rattle.graph.specs.Walks.{walk_of}
 use Rattle.checks.proofs.ChecksLaws.{by_test, by_read}
 use Rattle.history.specs.declared.Entry.{Entry}
-use Rattle.history.specs.declared.OfferAnswer.{OfferAnswer}
+use Rattle.history.specs.OfferAnswers.{OfferAnswer}
 use Rattle.history.specs.Entries.{max_edition, WellFormed, malformed, smaller}
 use Rattle.history.specs.Opens.{Vetted, stopped, passed}
 use Rattle.history.specs.Offers.{Offer, offer_checks, entry_on, offered, offer_of}

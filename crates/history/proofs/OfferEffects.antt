@@ -17,8 +17,8 @@ use Rattle.answers.specs.Table.{Final, Whole}
 use Rattle.checks.specs.Checks.{First, None}
 use Rattle.checks.proofs.ChecksLaws.{also, none_first, first_append_cases, first_every}
 use Rattle.history.specs.declared.Entry.{Entry}
-use Rattle.history.specs.declared.OfferAnswer.{OfferAnswer}
-use Rattle.history.specs.declared.OfferAnswer.TheVariants.{Refused}
+use Rattle.history.specs.OfferAnswers.{OfferAnswer}
+use Rattle.history.specs.OfferAnswers.{Refused}
 use Rattle.history.specs.Offers.{offer_of, next_edition, is_taken}
 use Rattle.history.specs.Tables.{offer_refusals, offer_outcomes, offer_rows}
 use Rattle.history.specs.Account.{NextEdition}

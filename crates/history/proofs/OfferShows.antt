@@ -20,7 +20,7 @@ use Rattle.answers.specs.Demand2.{Difference}
 use Rattle.answers.proofs.WalkRows.{whole_of}
 use Rattle.answers.proofs.DifferenceWords.{written_shown}
 use Rattle.history.specs.declared.Entry.{Entry}
-use Rattle.history.specs.declared.OfferAnswer.TheVariants.{Forward, Back, NoRoom}
+use Rattle.history.specs.OfferAnswers.{Forward, Back, NoRoom}
 use Rattle.history.specs.Offers.{Offer, offer_of}
 use Rattle.checks.specs.Checks.{FileHolds}
 use Rattle.history.proofs.OfferWalks.{answer_by, word_by}

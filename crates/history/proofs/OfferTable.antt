@@ -26,8 +26,8 @@ use Rattle.checks.proofs.ChecksLaws.{by_test, by_read, test_true, test_false, Fu
 use Rattle.answers.proofs.FileRows.{file_dead}
 use Rattle.answers.proofs.WalkRows.{whole_of, final_of, whole_at, final_at, whole_same, final_same, going_not_final, ended_not_whole, going_enough, ended_enough}
 use Rattle.history.specs.declared.Entry.{Entry}
-use Rattle.history.specs.declared.OfferAnswer.{OfferAnswer}
-use Rattle.history.specs.declared.OfferAnswer.TheVariants.{Taken, Forward, Back, Refused, NoRoom}
+use Rattle.history.specs.OfferAnswers.{OfferAnswer}
+use Rattle.history.specs.OfferAnswers.{Taken, Forward, Back, Refused, NoRoom}
 use Rattle.history.specs.Entries.{max_edition, malformed, Smaller, smaller}
 use Rattle.history.specs.Opens.{stopped, Vetted}
 use Rattle.history.specs.Offers.{offer_checks, offered, offer_of}

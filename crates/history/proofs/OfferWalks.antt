@@ -13,11 +13,11 @@ use Rattle.slots.specs.Slots.{slot_count}
 use Rattle.graph.specs.Discovery.{Walk, going, ended, full}
 use Rattle.graph.specs.Walks.{walk_of, work_after, word_of}
 use Rattle.graph.proofs.WorkBuffers.{work_length_kept}
-use Rattle.answers.specs.declared.Comparison.{Comparison}
-use Rattle.answers.specs.declared.Comparison.TheVariants.{Differs, NoRoom as Roomless}
+use Rattle.answers.specs.Outcomes.{Comparison}
+use Rattle.answers.specs.Outcomes.{Differs, NoRoom as Roomless}
 use Rattle.answers.specs.Contain.{walk_word, comparing}
-use Rattle.history.specs.declared.OfferAnswer.{OfferAnswer}
-use Rattle.history.specs.declared.OfferAnswer.TheVariants.{Taken, Forward, Back, NoSlots, NoRoom}
+use Rattle.history.specs.OfferAnswers.{OfferAnswer}
+use Rattle.history.specs.OfferAnswers.{Taken, Forward, Back, NoSlots, NoRoom}
 use Rattle.history.specs.Offers.{back_answer, offer_answer, last_made, walks_of, walks_answer, walks_work, walks_word}
 
 -- the answer x where a word of so many letters has room, else refusal 11 of the walk

@@ -13,8 +13,8 @@ use Rattle.checks.proofs.FileRows.{refused_read}
 use Rattle.checks.specs.Checks.{None, At}
 use Rattle.checks.proofs.ChecksLaws.{also, Every, first_every, Placed, first_at}
 use Rattle.history.specs.declared.Entry.{Entry}
-use Rattle.history.specs.declared.OpenAnswer.{OpenAnswer}
-use Rattle.history.specs.declared.OpenAnswer.TheVariants.{Refused}
+use Rattle.history.specs.OpenAnswers.{OpenAnswer}
+use Rattle.history.specs.OpenAnswers.{Refused}
 use Rattle.history.specs.Opens.{open_of}
 use Rattle.history.specs.Tables.{open_rows, open_place}
 use Rattle.history.specs.OpenDemand.{malformed_entry, already_open, bad_file, dead_state, OpenListed}

@@ -13,7 +13,7 @@ use Rattle.format.proofs.FileLaws.{read_same, read_not_both}
 use Rattle.checks.specs.Checks.{First}
 use Rattle.checks.proofs.FileRows.{refused_read}
 use Rattle.history.specs.declared.Entry.{Entry}
-use Rattle.history.specs.declared.OpenAnswer.TheVariants.{Opened, Refused}
+use Rattle.history.specs.OpenAnswers.{Opened, Refused}
 use Rattle.history.specs.Opens.{open_of, first_edition}
 use Rattle.history.specs.Tables.{open_rows}
 use Rattle.history.specs.Account.{FirstEdition}

@@ -12,8 +12,8 @@ use Rattle.checks.specs.Checks.{First}
 use Rattle.checks.proofs.ChecksLaws.{by_test, by_read, test_true, test_false, Functional, also, later, same_answer, first_answer}
 use Rattle.answers.proofs.FileRows.{file_dead}
 use Rattle.history.specs.declared.Entry.{Entry}
-use Rattle.history.specs.declared.OpenAnswer.{OpenAnswer}
-use Rattle.history.specs.declared.OpenAnswer.TheVariants.{Refused}
+use Rattle.history.specs.OpenAnswers.{OpenAnswer}
+use Rattle.history.specs.OpenAnswers.{Refused}
 use Rattle.history.specs.Entries.{malformed}
 use Rattle.history.specs.Opens.{stopped, Vetted, open_checks, opened, open_of}
 use Rattle.history.specs.Tables.{open_rows}

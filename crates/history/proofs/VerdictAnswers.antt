@@ -8,7 +8,7 @@ use lib.ListN.{take}
 use Rattle.checks.specs.Checks.{None, At}
 use Rattle.checks.proofs.ChecksLaws.{also, Every, first_every, Placed, first_at}
 use Rattle.history.specs.declared.Entry.{Entry}
-use Rattle.history.specs.declared.VerdictAnswer.{VerdictAnswer}
+use Rattle.history.specs.VerdictAnswers.{VerdictAnswer}
 use Rattle.history.specs.Verdicts.{verdict_of}
 use Rattle.history.specs.Tables.{verdict_rows, verdict_place}
 use Rattle.history.specs.VerdictDemand.{malformed_entry, empty_entry, lasso_is_bad, VerdictListed}

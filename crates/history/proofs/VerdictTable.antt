@@ -13,8 +13,8 @@ use Rattle.lassos.proofs.VerdictTheorem.{verdict_decides_acceptance}
 use Rattle.checks.specs.Checks.{First}
 use Rattle.checks.proofs.ChecksLaws.{test_true, test_false, by_test, Functional, also, later, first_answer}
 use Rattle.history.specs.declared.Entry.{Entry}
-use Rattle.history.specs.declared.VerdictAnswer.{VerdictAnswer}
-use Rattle.history.specs.declared.VerdictAnswer.TheVariants.{Yes, No, Refused}
+use Rattle.history.specs.VerdictAnswers.{VerdictAnswer}
+use Rattle.history.specs.VerdictAnswers.{Yes, No, Refused}
 use Rattle.history.specs.Entries.{WellFormed, malformed}
 use Rattle.history.specs.Verdicts.{bad_lasso, verdict_of}
 use Rattle.history.specs.Tables.{verdict_rows}

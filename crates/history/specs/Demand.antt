@@ -13,7 +13,7 @@ use Rattle.runs.specs.Lassos.{Accepted}
 use Rattle.format.specs.File.{holds, read_file}
 use Rattle.checks.specs.Checks.{First, None}
 use Rattle.history.specs.declared.Entry.{Entry}
-use Rattle.history.specs.declared.OpenAnswer.TheVariants.{Opened}
+use Rattle.history.specs.OpenAnswers.{Opened}
 use Rattle.history.specs.Entries.{max_edition, WellFormed, Smaller}
 use Rattle.history.specs.Opens.{open_of}
 use Rattle.history.specs.Offers.{offer_of, next_edition, is_taken}

@@ -2,24 +2,19 @@
 --   max_edition        183,071, one less than the number of pairs of counts of states and transitions
 --   WellFormed E       an open entry meets condition 9 nowhere: in range, no dead state, first states not fewer than held, edition
 --                      at most 183,071
---   entry_with h t     the entry with the head h and the held automaton's transitions t: how code holds an entry
 --   fresh_entry        an empty entry, all of whose numbers are 0
 --   malformed E        condition 9, computed; of an empty entry no other field is looked at
 --   Smaller, smaller   one automaton is smaller than another: by its states, then by its transitions; said and computed
 -- Shown by `malformed_iff` and `smaller_iff`. Assumes nothing.
 use Rattle.std.specs.Prelude.{◌≡◌, Bool, false, ◌&&◌, ◌||◌, not, List, ◌⊎◌, ℕ, ◌≤◌, ◌<◌, eqb, leb, ltb}
 use Rattle.automaton.specs.declared.Automaton.{Automaton}
-use Rattle.automaton.specs.Automata.{max_states, transition_count, bare, whole_of, InRange, in_range}
+use Rattle.automaton.specs.Automata.{max_states, transition_count, bare, InRange, in_range}
 use Rattle.runs.specs.DeadStates.{Dead}
 use Rattle.deadstates.specs.DeadEnds.{has_dead}
 use Rattle.history.specs.declared.Entry.{Entry}
-use Rattle.history.specs.declared.EntryHead.{EntryHead}
 
 abbrev pub max_edition : ℕ
 max_edition = 183071
-
-abbrev pub entry_with : EntryHead → List ℕ → Entry
-entry_with h t = record { filled = h.filled; edition = h.edition; first = h.first; held = whole_of h.held t }
 
 unfoldable pub fresh_entry : Entry
 fresh_entry = record { filled = false; edition = 0; first = 0; held = bare 0 0 0 }

@@ -13,8 +13,8 @@ use Rattle.checks.specs.Checks.{First, FileHolds}
 use Rattle.answers.specs.Table.{Final, Whole}
 use Rattle.answers.specs.Demand1.{slots_over, FrontSlots}
 use Rattle.history.specs.declared.Entry.{Entry}
-use Rattle.history.specs.declared.OfferAnswer.{OfferAnswer}
-use Rattle.history.specs.declared.OfferAnswer.TheVariants.{Taken, Forward, Back, Refused, NoSlots, NoRoom}
+use Rattle.history.specs.OfferAnswers.{OfferAnswer}
+use Rattle.history.specs.OfferAnswers.{Taken, Forward, Back, Refused, NoSlots, NoRoom}
 use Rattle.history.specs.Offers.{offer_of, next_edition}
 use Rattle.history.specs.Tables.{offer_rows}
 

@@ -14,13 +14,13 @@ use Rattle.automaton.specs.declared.Automaton.{Automaton}
 use Rattle.format.specs.File.{read_file}
 use Rattle.deadstates.specs.DeadEnds.{has_dead}
 use Rattle.graph.specs.LagGraph.{max_bound}
-use Rattle.answers.specs.declared.Comparison.{Comparison}
-use Rattle.answers.specs.declared.Comparison.TheVariants.{Contained, Differs, NoSlots as Unslotted, NoRoom as Roomless}
+use Rattle.answers.specs.Outcomes.{Comparison}
+use Rattle.answers.specs.Outcomes.{Contained, Differs, NoSlots as Unslotted, NoRoom as Roomless}
 use Rattle.checks.specs.Checks.{on_read}
 use Rattle.answers.specs.Contain.{Compare, comparing}
 use Rattle.history.specs.declared.Entry.{Entry}
-use Rattle.history.specs.declared.OfferAnswer.{OfferAnswer}
-use Rattle.history.specs.declared.OfferAnswer.TheVariants.{Taken, Forward, Back, Refused, NoSlots, NoRoom}
+use Rattle.history.specs.OfferAnswers.{OfferAnswer}
+use Rattle.history.specs.OfferAnswers.{Taken, Forward, Back, Refused, NoSlots, NoRoom}
 use Rattle.history.specs.Entries.{max_edition, malformed, smaller}
 use Rattle.history.specs.Opens.{Vetted, stopped, passed}
 

@@ -4,8 +4,8 @@ use Rattle.std.specs.Prelude.{◌≡◌, List, ◌↔◌, ℕ, ◌≤◌}
 use Rattle.format.specs.Refusals.{ReadsAs}
 use Rattle.checks.specs.Checks.{First, FileHolds}
 use Rattle.history.specs.declared.Entry.{Entry}
-use Rattle.history.specs.declared.OpenAnswer.{OpenAnswer}
-use Rattle.history.specs.declared.OpenAnswer.TheVariants.{Opened, Refused}
+use Rattle.history.specs.OpenAnswers.{OpenAnswer}
+use Rattle.history.specs.OpenAnswers.{Opened, Refused}
 use Rattle.history.specs.Opens.{open_of, first_edition}
 use Rattle.history.specs.Tables.{open_rows}
 

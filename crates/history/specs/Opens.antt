@@ -10,8 +10,8 @@ use Rattle.format.specs.File.{read_file}
 use Rattle.deadstates.specs.DeadEnds.{has_dead}
 use Rattle.checks.specs.Checks.{on_read}
 use Rattle.history.specs.declared.Entry.{Entry}
-use Rattle.history.specs.declared.OpenAnswer.{OpenAnswer}
-use Rattle.history.specs.declared.OpenAnswer.TheVariants.{Opened, Refused}
+use Rattle.history.specs.OpenAnswers.{OpenAnswer}
+use Rattle.history.specs.OpenAnswers.{Opened, Refused}
 use Rattle.history.specs.Entries.{malformed}
 
 pub data Vetted : Type 0 where

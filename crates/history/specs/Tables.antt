@@ -17,12 +17,12 @@ use Rattle.graph.specs.Walks.{NeedsMore}
 use Rattle.checks.specs.Checks.{Row, answers, answers_by, answers_by₂, answers_by₃, FileHolds}
 use Rattle.answers.specs.Table.{Whole, HasDead, TooLong, FinalAt, NoneFinal}
 use Rattle.history.specs.declared.Entry.{Entry}
-use Rattle.history.specs.declared.OpenAnswer.{OpenAnswer}
-use Rattle.history.specs.declared.OpenAnswer.TheVariants.{Opened, Refused as OpenRefused}
-use Rattle.history.specs.declared.OfferAnswer.{OfferAnswer}
-use Rattle.history.specs.declared.OfferAnswer.TheVariants.{Taken, Forward, Back, Refused, NoSlots, NoRoom}
-use Rattle.history.specs.declared.VerdictAnswer.{VerdictAnswer}
-use Rattle.history.specs.declared.VerdictAnswer.TheVariants.{Yes, No, Refused as VerdictRefused}
+use Rattle.history.specs.OpenAnswers.{OpenAnswer}
+use Rattle.history.specs.OpenAnswers.{Opened, Refused as OpenRefused}
+use Rattle.history.specs.OfferAnswers.{OfferAnswer}
+use Rattle.history.specs.OfferAnswers.{Taken, Forward, Back, Refused, NoSlots, NoRoom}
+use Rattle.history.specs.VerdictAnswers.{VerdictAnswer}
+use Rattle.history.specs.VerdictAnswers.{Yes, No, Refused as VerdictRefused}
 use Rattle.history.specs.Entries.{max_edition, WellFormed, Smaller}
 use Rattle.history.specs.Verdicts.{BadLasso}
 

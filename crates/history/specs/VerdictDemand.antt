@@ -3,8 +3,8 @@
 use Rattle.std.specs.Prelude.{◌≡◌, List, ◌↔◌, ℕ}
 use Rattle.checks.specs.Checks.{First}
 use Rattle.history.specs.declared.Entry.{Entry}
-use Rattle.history.specs.declared.VerdictAnswer.{VerdictAnswer}
-use Rattle.history.specs.declared.VerdictAnswer.TheVariants.{Yes, No, Refused}
+use Rattle.history.specs.VerdictAnswers.{VerdictAnswer}
+use Rattle.history.specs.VerdictAnswers.{Yes, No, Refused}
 use Rattle.history.specs.Verdicts.{verdict_of}
 use Rattle.history.specs.Tables.{verdict_rows}
 

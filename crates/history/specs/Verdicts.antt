@@ -8,8 +8,8 @@ use Rattle.std.specs.Prelude.{Bool, false, cond, ◌||◌, not, ◌≡◌, ℕ, 
 use mathlib.Core.List.{List, [], ◌∷◌, Memᴰ}
 use Rattle.lassos.specs.Verdict.{accepted}
 use Rattle.history.specs.declared.Entry.{Entry}
-use Rattle.history.specs.declared.VerdictAnswer.{VerdictAnswer}
-use Rattle.history.specs.declared.VerdictAnswer.TheVariants.{Yes, No, Refused}
+use Rattle.history.specs.VerdictAnswers.{VerdictAnswer}
+use Rattle.history.specs.VerdictAnswers.{Yes, No, Refused}
 use Rattle.history.specs.Entries.{malformed}
 
 abbrev pub max_length : ℕ

@@ -2,7 +2,9 @@
 // calls and demand 3. There is no code here but the types of entries and answers; the crate `entry` has it.
 #![tactic(auto)]
 
-use automaton::{Automaton, Head};
+use answers::WalkRefusal;
+use automaton::Automaton;
+use format::FileRefusal;
 
 // An entry: whether it holds an edition, that edition's number and automaton, and how many states the first edition had.
 #[derive(Clone, Copy)]
@@ -13,39 +15,49 @@ pub struct Entry {
     pub held: Automaton,
 }
 
-// An entry without the transitions of its automaton, which are lent beside it.
-#[derive(Clone, Copy)]
-pub struct EntryHead {
-    pub filled: bool,
-    pub edition: usize,
-    pub first: usize,
-    pub held: Head,
+// Why open opens nothing: the entry is malformed (9), it holds an edition (12), the file is not read (1 to 5), or its automaton has a dead state (6).
+#[derive(Clone, Copy, Debug, PartialEq, Eq)]
+pub enum OpenRefusal {
+    Malformed,
+    Filled,
+    File(FileRefusal),
+    Dead,
 }
 
-// What open answers: opened, or a refusal's number.
-#[derive(Clone, Copy)]
-pub enum OpenAnswer {
-    Opened,
-    Refused(usize),
+// The walks of an offer, 1 and 2.
+#[derive(Clone, Copy, Debug, PartialEq, Eq)]
+pub enum Walk {
+    Forward = 1,
+    Back,
 }
 
-// What offer answers: taken with the forward and the back count; forward with its count and the word's length; back with both
-// counts and the word's length; a refusal's number; 10 with the walk, 1 forward or 2 back, and the slots; 11 with the walk and
-// the length needed.
-#[derive(Clone, Copy)]
-pub enum OfferAnswer {
-    Taken(usize, usize),
-    Forward(usize, usize),
-    Back(usize, usize, usize),
-    Refused(usize),
-    NoSlots(usize, usize),
-    NoRoom(usize, usize),
+// What offer answers: taken with the forward and the back count; the forward walk differs, with its count and the word's length; the back walk differs, with
+// both counts and the word's length.
+#[derive(Clone, Copy, Debug, PartialEq, Eq)]
+pub enum Offered {
+    Taken { forward: usize, back: usize },
+    Forward { forward: usize, len: usize },
+    Back { forward: usize, back: usize, len: usize },
 }
 
-// What verdict answers: accepted, not accepted, or a refusal's number.
-#[derive(Clone, Copy)]
-pub enum VerdictAnswer {
-    Yes,
-    No,
-    Refused(usize),
+// Why an offer gets no answer: the entry is malformed (9) or empty (13), the file is not read (1 to 5), the bound is above the largest (8), the letter counts
+// differ (7), the offer has a dead state (6) or is not smaller (14), or a walk gives none (10 or 11).
+#[derive(Clone, Copy, Debug, PartialEq, Eq)]
+pub enum OfferRefusal {
+    Malformed,
+    Empty,
+    File(FileRefusal),
+    Bound,
+    Letters,
+    Dead,
+    NotSmaller,
+    Walk(Walk, WalkRefusal),
+}
+
+// Why there is no verdict: the entry is malformed (9) or empty (13), or the lasso word is not one of its letters (15).
+#[derive(Clone, Copy, Debug, PartialEq, Eq)]
+pub enum VerdictRefusal {
+    Malformed,
+    Empty,
+    BadLasso,
 }

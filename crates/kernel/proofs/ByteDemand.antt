@@ -20,10 +20,10 @@ use Rattle.lassos.specs.Verdict.{accepted}
 use Rattle.lassos.proofs.VerdictTheorem.{verdict_decides_acceptance}
 use Rattle.checks.proofs.ChecksLaws.{by_test, by_read}
 use Rattle.history.specs.declared.Entry.{Entry}
-use Rattle.history.specs.declared.OfferAnswer.{OfferAnswer}
-use Rattle.history.specs.declared.OfferAnswer.TheVariants.{Taken, Forward, Back, Refused, NoSlots, NoRoom}
-use Rattle.history.specs.declared.VerdictAnswer.{VerdictAnswer}
-use Rattle.history.specs.declared.VerdictAnswer.TheVariants.{Yes, No, Refused as VerdictRefused}
+use Rattle.history.specs.OfferAnswers.{OfferAnswer}
+use Rattle.history.specs.OfferAnswers.{Taken, Forward, Back, Refused, NoSlots, NoRoom}
+use Rattle.history.specs.VerdictAnswers.{VerdictAnswer}
+use Rattle.history.specs.VerdictAnswers.{Yes, No, Refused as VerdictRefused}
 use Rattle.history.specs.Entries.{malformed, WellFormed}
 use Rattle.history.specs.Verdicts.{bad_lasso, verdict_of}
 use Rattle.history.specs.Opens.{Vetted, stopped, passed, open_checks, opened, open_of, first_edition}

@@ -16,12 +16,12 @@ use Rattle.deadstates.specs.DeadEnds.{has_dead}
 use Rattle.slots.specs.Slots.{max_slots, slot_count}
 use Rattle.boundary.proofs.OutcomeSizes.{slot_count_le}
 use Rattle.history.specs.declared.Entry.{Entry}
-use Rattle.history.specs.declared.OpenAnswer.{OpenAnswer}
-use Rattle.history.specs.declared.OpenAnswer.TheVariants.{Opened, Refused as OpenRefused}
-use Rattle.history.specs.declared.OfferAnswer.{OfferAnswer}
-use Rattle.history.specs.declared.OfferAnswer.TheVariants.{Taken, Forward, Back, Refused, NoSlots, NoRoom}
-use Rattle.history.specs.declared.VerdictAnswer.{VerdictAnswer}
-use Rattle.history.specs.declared.VerdictAnswer.TheVariants.{Yes, No, Refused as VerdictRefused}
+use Rattle.history.specs.OpenAnswers.{OpenAnswer}
+use Rattle.history.specs.OpenAnswers.{Opened, Refused as OpenRefused}
+use Rattle.history.specs.OfferAnswers.{OfferAnswer}
+use Rattle.history.specs.OfferAnswers.{Taken, Forward, Back, Refused, NoSlots, NoRoom}
+use Rattle.history.specs.VerdictAnswers.{VerdictAnswer}
+use Rattle.history.specs.VerdictAnswers.{Yes, No, Refused as VerdictRefused}
 use Rattle.history.specs.Entries.{malformed, WellFormed}
 use Rattle.history.specs.Verdicts.{verdict_of}
 use Rattle.history.specs.Opens.{Vetted, stopped, passed, open_checks, opened, Open, open_of, first_edition}

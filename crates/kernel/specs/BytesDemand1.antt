@@ -6,17 +6,17 @@
 -- nothing.
 use Rattle.std.specs.Prelude.{◌≡◌, true, false, List, ◌↔◌, ℕ, ◌^◌, ◌<◌, length}
 use Rattle.slots.specs.Slots.{slot_count}
-use Rattle.fixed_form.specs.declared.WriteAnswer.{WriteAnswer}
+use Rattle.fixed_form.specs.WriteAnswers.{WriteAnswer}
 use Rattle.fixed_form.specs.Write.{write_of}
 use Rattle.fixed_form.specs.WriteDemand.{WriteListed, WriteDemand1}
 use Rattle.hanoi.specs.Hanoi.{hanoi_of}
 use Rattle.hanoi.specs.HanoiDemand.{HanoiListed, HanoiDemand1}
-use Rattle.answers.specs.declared.Outcome.{Outcome}
+use Rattle.answers.specs.Outcomes.{Outcome}
 use Rattle.answers.specs.Contain.{outcome_of}
 use Rattle.answers.specs.Demand1.{Listed, Demand1}
-use Rattle.history.specs.declared.OpenAnswer.{OpenAnswer}
-use Rattle.history.specs.declared.OfferAnswer.{OfferAnswer}
-use Rattle.history.specs.declared.VerdictAnswer.{VerdictAnswer}
+use Rattle.history.specs.OpenAnswers.{OpenAnswer}
+use Rattle.history.specs.OfferAnswers.{OfferAnswer}
+use Rattle.history.specs.VerdictAnswers.{VerdictAnswer}
 use Rattle.history.specs.Opens.{open_of}
 use Rattle.history.specs.Offers.{is_taken, offer_of}
 use Rattle.history.specs.Verdicts.{verdict_of}

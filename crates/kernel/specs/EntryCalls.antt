@@ -7,8 +7,8 @@
 -- Shown by `entry_open_demand_1`, `entry_offer_demand_1` and `entry_verdict_demand_1`. Assumes nothing.
 use Rattle.std.specs.Prelude.{Bool, true, false, cond, List, ℕ}
 use Rattle.history.specs.declared.Entry.{Entry}
-use Rattle.history.specs.declared.OpenAnswer.{OpenAnswer}
-use Rattle.history.specs.declared.OpenAnswer.TheVariants.{Opened, Refused}
+use Rattle.history.specs.OpenAnswers.{OpenAnswer}
+use Rattle.history.specs.OpenAnswers.{Opened, Refused}
 use Rattle.history.specs.Opens.{open_of}
 use Rattle.history.specs.Offers.{is_taken, offer_of}
 use Rattle.history.specs.Verdicts.{verdict_of}

@@ -3,7 +3,7 @@ use mathlib.Core.Path.{◌≡◌, refl}
 use mathlib.Core.Bool.{true}
 use mathlib.Core.List.{[], ◌∷◌}
 use Rattle.automaton.specs.Automata.{bare}
-use Rattle.history.specs.declared.OfferAnswer.TheVariants.{Taken, Back}
+use Rattle.history.specs.OfferAnswers.{Taken, Back}
 use Rattle.text.specs.Text.{digits, decimal, percent_saved, letters}
 use Rattle.report.specs.Line.{fields, offer_line}
 

@@ -6,8 +6,8 @@ use native.Mathlib.Nat.{div-zero, div-lt_iff_lt-mul}
 use native.Mathlib.Omega.{arith}
 use lib.ListN.{length, length-append}
 use Rattle.history.specs.declared.Entry.{Entry}
-use Rattle.history.specs.declared.OfferAnswer.{OfferAnswer}
-use Rattle.history.specs.declared.OfferAnswer.TheVariants.{Taken, Forward, Back, Refused, NoSlots, NoRoom}
+use Rattle.history.specs.OfferAnswers.{OfferAnswer}
+use Rattle.history.specs.OfferAnswers.{Taken, Forward, Back, Refused, NoSlots, NoRoom}
 use Rattle.text.specs.Text.{decimal, percent_saved, letters}
 use Rattle.report.specs.Line.{fields, refused_line, offer_line, line_room}
 use Rattle.text.proofs.Decimals.{decimal_length}

@@ -8,7 +8,7 @@ use native.Mathlib.Omega.{arith}
 use lib.Dec.{leb}
 use lib.ListN.{length, drop}
 use Rattle.history.specs.declared.Entry.{Entry}
-use Rattle.history.specs.declared.OfferAnswer.{OfferAnswer}
+use Rattle.history.specs.OfferAnswers.{OfferAnswer}
 use Rattle.report.specs.declared.answer_lines.Summary.{Summary}
 use Rattle.report.specs.Summary.{SummaryOf}
 use Rattle.buffers.specs.Buffers.{WrittenAt}

@@ -10,9 +10,9 @@ use lib.ListN.{length, drop, take, get_or, replicate, length-replicate}
 use lib.Seq.{length-take-le}
 use Rattle.history.proofs.OfferBuffers.{offer_part_le}
 use Rattle.history.specs.declared.Entry.{Entry}
-use Rattle.history.specs.declared.OfferAnswer.{OfferAnswer}
-use Rattle.history.specs.declared.OpenAnswer.{OpenAnswer}
-use Rattle.history.specs.declared.OpenAnswer.TheVariants.{Opened, Refused}
+use Rattle.history.specs.OfferAnswers.{OfferAnswer}
+use Rattle.history.specs.OpenAnswers.{OpenAnswer}
+use Rattle.history.specs.OpenAnswers.{Opened, Refused}
 use Rattle.history.specs.Opens.{open_of}
 use Rattle.history.specs.Offers.{Offer, offer_of, offer_part, part_length}
 use Rattle.report.specs.Line.{newline, usage_text, long_text, refused_line, offer_line, line_after, answered_length, line_room, Lined}

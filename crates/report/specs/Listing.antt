@@ -5,8 +5,8 @@
 -- Shown by the contract of `listing_line`. Assumes nothing.
 use Rattle.std.specs.Prelude.{cond, ◌||◌, not, List, ◌++◌, ℕ, eqb, ltb, length, get_or, replicate}
 use Rattle.history.specs.declared.Entry.{Entry}
-use Rattle.history.specs.declared.OpenAnswer.{OpenAnswer}
-use Rattle.history.specs.declared.OpenAnswer.TheVariants.{Opened, Refused}
+use Rattle.history.specs.OpenAnswers.{OpenAnswer}
+use Rattle.history.specs.OpenAnswers.{Opened, Refused}
 use Rattle.history.specs.Entries.{fresh_entry}
 use Rattle.history.specs.Opens.{open_of}
 use Rattle.history.specs.Offers.{offer_of, offer_part}

@@ -9,8 +9,8 @@ use lib.ListN.{length, drop}
 use Rattle.automaton.specs.declared.Automaton.{Automaton}
 use Rattle.format.specs.File.{refused, holds, read_file}
 use Rattle.buffers.specs.Buffers.{WrittenAt}
-use Rattle.fixed_form.specs.declared.WriteAnswer.{WriteAnswer}
-use Rattle.fixed_form.specs.declared.WriteAnswer.TheVariants.{Wrote, Refused, NoRoom}
+use Rattle.fixed_form.specs.WriteAnswers.{WriteAnswer}
+use Rattle.fixed_form.specs.WriteAnswers.{Wrote, Refused, NoRoom}
 use Rattle.fixed_form.specs.FixedForm.{written}
 use Rattle.fixed_form.specs.Write.{Write, writing, write_of}
 use Rattle.fixed_form.specs.WriteDemand.{WriteDemand1}

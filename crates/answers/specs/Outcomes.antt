@@ -1,0 +1,40 @@
+-- What contain answers (01, "Contain" and the table of refusals), by the table's numbers.
+--   Comparison        what the walk of two automata comes to: the number of vertices, none of which is final; the final vertex's place and its word's
+--                     length; refusal 10 with the slots; refusal 11 with the length needed
+--   Outcome           a refusal 1 to 8 with the file, 1 or 2, and 0 where none is meant; or what the walk comes to
+--   comparison_of x, outcome_for x   what the code's result x stands for
+-- Assumes nothing.
+use Rattle.std.specs.Prelude.{ℕ, Result, Ok, Err}
+use Rattle.format.specs.Numbers.{file_number}
+use Rattle.answers.specs.declared.Containment.{Containment}
+use Rattle.answers.specs.declared.Containment.TheVariants as found
+use Rattle.answers.specs.declared.WalkRefusal.{WalkRefusal}
+use Rattle.answers.specs.declared.WalkRefusal.TheVariants as walks
+use Rattle.answers.specs.declared.ContainRefusal.{ContainRefusal}
+use Rattle.answers.specs.declared.ContainRefusal.TheVariants.{First, Second, Bound, Letters, FirstDead, SecondDead, Walk}
+
+pub data Comparison : Type 0 where
+  Contained : ℕ → Comparison
+  Differs : ℕ → ℕ → Comparison
+  NoSlots : ℕ → Comparison
+  NoRoom : ℕ → Comparison
+
+pub data Outcome : Type 0 where
+  Refused : ℕ → ℕ → Outcome
+  Compared : Comparison → Outcome
+
+abbrev pub comparison_of : Result Containment WalkRefusal → Comparison
+comparison_of (Ok (found.Contained count)) = Contained count
+comparison_of (Ok (found.Differs place len)) = Differs place len
+comparison_of (Err (walks.NoSlots slots)) = NoSlots slots
+comparison_of (Err (walks.NoRoom len)) = NoRoom len
+
+abbrev pub outcome_for : Result Containment ContainRefusal → Outcome
+outcome_for (Ok x) = Compared (comparison_of (Ok x))
+outcome_for (Err (First r)) = Refused (file_number r) 1
+outcome_for (Err (Second r)) = Refused (file_number r) 2
+outcome_for (Err Bound) = Refused 8 0
+outcome_for (Err Letters) = Refused 7 0
+outcome_for (Err FirstDead) = Refused 6 1
+outcome_for (Err SecondDead) = Refused 6 2
+outcome_for (Err (Walk r)) = Compared (comparison_of (Err r))
