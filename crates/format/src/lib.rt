@@ -1,8 +1,8 @@
 // The theory of files (docs/reference.md, "The file"): the layout of records, what a file holds, and the faults for which it is refused. There is no
-// code here but the types of a record and of a refusal, and the refusal's number; the crates `records` and `file` have the rest.
+// code here but the types of a record and of a refusal, and refusals' numbers; the crates `records` and `file` have the rest.
 #![tactic(auto)]
 
-ghost use Rattle.std.specs.Prelude.{◌≡◌};
+ghost use Rattle.std.specs.Prelude.{◌≡◌, ℕ};
 ghost use Rattle.format.specs.Numbers.{file_number};
 
 // Why a file is refused: refusals 1 to 5, in this order.
@@ -15,11 +15,20 @@ pub enum FileRefusal {
     Repeated,
 }
 
-// The number of a file's refusal.
-pub fn file_number(refusal: FileRefusal) -> usize
-    ensures { result ≡ file_number refusal }
-{
-    refusal as usize
+// What the table of refusals gives a number.
+pub trait Numbered {
+    ghost number: { Self → ℕ };
+
+    fn number(self) -> usize
+        ensures { result ≡ number self };
+}
+
+impl Numbered for FileRefusal {
+    ghost number = { file_number };
+
+    fn number(self) -> usize {
+        self as usize
+    }
 }
 
 // A record past the header, with the position after it where one follows.

@@ -2,8 +2,9 @@
 // table and its demand 1. There is no code here but the type of a refusal and its number; the crate `hanoi_reader` has the rest.
 #![tactic(auto)]
 
-ghost use Rattle.std.specs.Prelude.{◌≡◌};
 ghost use Rattle.hanoi.specs.Numbers.{text_number};
+
+use format::Numbered;
 
 // Why a text is refused: refusals 3, 4, 17 and 18.
 #[derive(Clone, Copy, Debug, PartialEq, Eq)]
@@ -14,9 +15,10 @@ pub enum TextRefusal {
     ManyPropositions,
 }
 
-// The number of a text's refusal.
-pub fn text_number(refusal: TextRefusal) -> usize
-    ensures { result ≡ text_number refusal }
-{
-    refusal as usize
+impl Numbered for TextRefusal {
+    ghost number = { text_number };
+
+    fn number(self) -> usize {
+        self as usize
+    }
 }
