@@ -3,6 +3,7 @@
 --                     length; refusal 10 with the slots; refusal 11 with the length needed
 --   Outcome           a refusal 1 to 8 with the file, 1 or 2, and 0 where none is meant; or what the walk comes to
 --   comparison_of x, outcome_for x   what the code's result x stands for
+--   walk_refusal_number r            the number of a walk's refusal
 -- Assumes nothing.
 use Rattle.std.specs.Prelude.{ℕ, Result, Ok, Err}
 use Rattle.format.specs.Numbers.{file_number}
@@ -22,6 +23,10 @@ pub data Comparison : Type 0 where
 pub data Outcome : Type 0 where
   Refused : ℕ → ℕ → Outcome
   Compared : Comparison → Outcome
+
+abbrev pub walk_refusal_number : WalkRefusal → ℕ
+walk_refusal_number (walks.NoSlots slots) = 10
+walk_refusal_number (walks.NoRoom len) = 11
 
 abbrev pub comparison_of : Result Containment WalkRefusal → Comparison
 comparison_of (Ok (found.Contained count)) = Contained count

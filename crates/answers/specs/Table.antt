@@ -6,7 +6,7 @@
 --   contain_rows       the rows: 1-5 of the first file, 1-5 of the second, 8, 7, 6 of the first, 6 of the second, 10, 11; then the outcomes
 --   contain_place x    the place of the row of x, counted from 0
 -- Shown by `contain_table` and `contain_answer`. Assumes nothing.
-use Rattle.std.specs.Prelude.{◌≡◌, cond, ◌≢◌, List, [], ◌∷◌, ℕ, ◌≤◌, ◌<◌, eqb, leb, length}
+use Rattle.std.specs.Prelude.{◌≡◌, cond, ◌≢◌, List, [], ◌∷◌, ℕ, ◌<◌, eqb, leb, length}
 use Rattle.automaton.specs.declared.Automaton.{Automaton}
 use Rattle.runs.specs.DeadStates.{Dead}
 use Rattle.format.specs.File.{holds, read_file}

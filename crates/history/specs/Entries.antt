@@ -6,7 +6,7 @@
 --   malformed E        condition 9, computed; of an empty entry no other field is looked at
 --   Smaller, smaller   one automaton is smaller than another: by its states, then by its transitions; said and computed
 -- Shown by `malformed_iff` and `smaller_iff`. Assumes nothing.
-use Rattle.std.specs.Prelude.{◌≡◌, Bool, false, ◌&&◌, ◌||◌, not, List, ◌⊎◌, ℕ, ◌≤◌, ◌<◌, eqb, leb, ltb}
+use Rattle.std.specs.Prelude.{◌≡◌, Bool, false, ◌&&◌, ◌||◌, not, ◌⊎◌, ℕ, ◌≤◌, ◌<◌, eqb, leb, ltb}
 use Rattle.automaton.specs.declared.Automaton.{Automaton}
 use Rattle.automaton.specs.Automata.{max_states, transition_count, bare, InRange, in_range}
 use Rattle.runs.specs.DeadStates.{Dead}

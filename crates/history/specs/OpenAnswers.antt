@@ -1,5 +1,6 @@
 -- What open answers (01, "Entry, open, offer" and the table of refusals), by the table's numbers: opened, or a refusal's number.
---   open_answer x   the answer that the code's result x stands for
+--   open_answer x           the answer that the code's result x stands for
+--   open_refusal_number r   the number of the refusal r
 -- Assumes nothing.
 use Rattle.std.specs.Prelude.{ℕ, Result, Ok, Err}
 use Rattle.format.specs.Numbers.{file_number}
@@ -10,9 +11,12 @@ pub data OpenAnswer : Type 0 where
   Opened : OpenAnswer
   Refused : ℕ → OpenAnswer
 
+abbrev pub open_refusal_number : OpenRefusal → ℕ
+open_refusal_number Malformed = 9
+open_refusal_number Filled = 12
+open_refusal_number (File r) = file_number r
+open_refusal_number Dead = 6
+
 abbrev pub open_answer : Result (Unit {0}) OpenRefusal → OpenAnswer
 open_answer (Ok _) = Opened
-open_answer (Err Malformed) = Refused 9
-open_answer (Err Filled) = Refused 12
-open_answer (Err (File r)) = Refused (file_number r)
-open_answer (Err Dead) = Refused 6
+open_answer (Err r) = Refused (open_refusal_number r)

@@ -1,5 +1,6 @@
 -- What verdict answers (01, "Verdict" and the table of refusals), by the table's numbers: accepted, not accepted, or a refusal's number.
---   verdict_answer x   the answer that the code's result x stands for
+--   verdict_answer x           the answer that the code's result x stands for
+--   verdict_refusal_number r   the number of the refusal r
 -- Assumes nothing.
 use Rattle.std.specs.Prelude.{ℕ, Bool, true, false, Result, Ok, Err}
 use Rattle.history.specs.declared.VerdictRefusal.{VerdictRefusal}
@@ -10,9 +11,12 @@ pub data VerdictAnswer : Type 0 where
   No : VerdictAnswer
   Refused : ℕ → VerdictAnswer
 
+abbrev pub verdict_refusal_number : VerdictRefusal → ℕ
+verdict_refusal_number Malformed = 9
+verdict_refusal_number Empty = 13
+verdict_refusal_number BadLasso = 15
+
 abbrev pub verdict_answer : Result Bool VerdictRefusal → VerdictAnswer
 verdict_answer (Ok true) = Yes
 verdict_answer (Ok false) = No
-verdict_answer (Err Malformed) = Refused 9
-verdict_answer (Err Empty) = Refused 13
-verdict_answer (Err BadLasso) = Refused 15
+verdict_answer (Err r) = Refused (verdict_refusal_number r)

@@ -1,10 +1,16 @@
 // The theory of entries (docs/reference.md, "Verdict" and "Entry, open, offer"): entries, the calls on them, their tables, the account of a list of
-// calls and demand 3. There is no code here but the types of entries and answers; the crate `entry` has it.
+// calls and demand 3. There is no code here but the types of entries and answers, and refusals' numbers; the crate `entry` has it.
 #![tactic(auto)]
+
+ghost use Rattle.std.specs.Prelude.{◌≡◌};
+ghost use Rattle.history.specs.Entries.{fresh_entry};
+ghost use Rattle.history.specs.OpenAnswers.{open_refusal_number};
+ghost use Rattle.history.specs.OfferAnswers.{offer_refusal_number};
+ghost use Rattle.history.specs.VerdictAnswers.{verdict_refusal_number};
 
 use answers::WalkRefusal;
 use automaton::Automaton;
-use format::FileRefusal;
+use format::{FileRefusal, Numbered};
 
 // An entry: whether it holds an edition, that edition's number and automaton, and how many states the first edition had.
 #[derive(Clone, Copy)]
@@ -15,6 +21,21 @@ pub struct Entry {
     pub held: Automaton,
 }
 
+impl Entry {
+    // An empty entry.
+    #[tactic(auto, unfolding(crate::specs::Entries::fresh_entry))]
+    pub fn fresh() -> Entry
+        ensures { result ≡ fresh_entry }
+    {
+        Entry {
+            filled: false,
+            edition: 0,
+            first: 0,
+            held: Automaton::empty(),
+        }
+    }
+}
+
 // Why open opens nothing: the entry is malformed (9), it holds an edition (12), the file is not read (1 to 5), or its automaton has a dead state (6).
 #[derive(Clone, Copy, Debug, PartialEq, Eq)]
 pub enum OpenRefusal {
@@ -22,6 +43,19 @@ pub enum OpenRefusal {
     Filled,
     File(FileRefusal),
     Dead,
+}
+
+impl Numbered for OpenRefusal {
+    ghost number = { open_refusal_number };
+
+    fn number(self) -> usize {
+        match self {
+            OpenRefusal::Malformed => 9,
+            OpenRefusal::Filled => 12,
+            OpenRefusal::File(refusal) => refusal.number(),
+            OpenRefusal::Dead => 6,
+        }
+    }
 }
 
 // The walks of an offer, 1 and 2.
@@ -35,9 +69,19 @@ pub enum Walk {
 // both counts and the word's length.
 #[derive(Clone, Copy, Debug, PartialEq, Eq)]
 pub enum Offered {
-    Taken { forward: usize, back: usize },
-    Forward { forward: usize, len: usize },
-    Back { forward: usize, back: usize, len: usize },
+    Taken {
+        forward: usize,
+        back: usize,
+    },
+    Forward {
+        forward: usize,
+        len: usize,
+    },
+    Back {
+        forward: usize,
+        back: usize,
+        len: usize,
+    },
 }
 
 // Why an offer gets no answer: the entry is malformed (9) or empty (13), the file is not read (1 to 5), the bound is above the largest (8), the letter counts
@@ -54,10 +98,35 @@ pub enum OfferRefusal {
     Walk(Walk, WalkRefusal),
 }
 
+impl Numbered for OfferRefusal {
+    ghost number = { offer_refusal_number };
+
+    fn number(self) -> usize {
+        match self {
+            OfferRefusal::Malformed => 9,
+            OfferRefusal::Empty => 13,
+            OfferRefusal::File(refusal) => refusal.number(),
+            OfferRefusal::Bound => 8,
+            OfferRefusal::Letters => 7,
+            OfferRefusal::Dead => 6,
+            OfferRefusal::NotSmaller => 14,
+            OfferRefusal::Walk(_, refusal) => refusal.number(),
+        }
+    }
+}
+
 // Why there is no verdict: the entry is malformed (9) or empty (13), or the lasso word is not one of its letters (15).
 #[derive(Clone, Copy, Debug, PartialEq, Eq)]
 pub enum VerdictRefusal {
-    Malformed,
-    Empty,
-    BadLasso,
+    Malformed = 9,
+    Empty = 13,
+    BadLasso = 15,
+}
+
+impl Numbered for VerdictRefusal {
+    ghost number = { verdict_refusal_number };
+
+    fn number(self) -> usize {
+        self as usize
+    }
 }
