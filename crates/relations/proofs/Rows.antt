@@ -6,7 +6,7 @@ use mathlib.Core.Bool.{Bool, true, false, cond, ◌&&◌, ◌||◌, not}
 use mathlib.Core.List.{List, [], ◌∷◌, ◌++◌}
 use Prim.Native.Nat.{ℕ, zero, suc, ◌+◌, ◌*◌, ◌/◌, ◌%◌, ◌^◌, ◌-◌, ◌≤◌, ◌<◌}
 use native.Mathlib.Nat.{lt_of_not-le, pow-le-pow_right, pow-suc, add-zero, zero-add, add-suc, suc-add}
-use native.Mathlib.Numerals.{add-one, one-add}
+use native.Mathlib.Numerals.{add-one}
 use native.Mathlib.Omega.{arith}
 use lib.Bits.{bit_and, bit_or, and_lt, or_self, block_half, block_odd}
 use lib.Dec.{T, eqb, ltb, ltb→lt, lt→ltb}
@@ -96,19 +96,23 @@ pub bit_high : (k a r i : ℕ) → r < 2 ^ k → bit (a * 2 ^ k + r) (k + i) ≡
 bit_high k a r i h =
     ap (λ (x : ℕ). eqb (x % 2) 1) (sym (shr-shr (a * 2 ^ k + r) k i) ∙ ap (λ (x : ℕ). x / 2 ^ i) (high a k h))
 
--- a number whose bits are not set is 0
-bits_none : (k w : ℕ) → w < 2 ^ k → ((i : ℕ) → i < k → bit w i ≡ false) → w ≡ 0
-bits_none zero w h none = omega arith
-bits_none (suc k) w h none =
-    let l : w < 2 ^ k * 2 = rw pow-suc at h in
-    let half : w / 2 ≡ 0 = bits_none k (w / 2) (omega arith) (λ i g. sym (bit_half w i) ∙ none (suc i) (omega arith)) in
-    let even : w % 2 ≡ 0 = not_odd (w % 2) (omega arith) (sym (bit_first w) ∙ none 0 (omega arith)) in
-    omega arith
+-- a number whose lowest bit is not set is even
+pub even_word : (w : ℕ) → bit w 0 ≡ false → w % 2 ≡ 0
+even_word w e = not_odd (w % 2) (omega arith) (sym (bit_first w) ∙ e)
   where
     not_odd : (x : ℕ) → x < 2 → eqb x 1 ≡ false → x ≡ 0
     not_odd zero g e = refl
     not_odd (suc zero) g e = absurd (eqb-false 1 1 e refl)
     not_odd (suc (suc x)) g e = absurd (omega arith)
+
+-- a number whose bits are not set is 0
+pub bits_none : (k w : ℕ) → w < 2 ^ k → ((i : ℕ) → i < k → bit w i ≡ false) → w ≡ 0
+bits_none zero w h none = omega arith
+bits_none (suc k) w h none =
+    let l : w < 2 ^ k * 2 = rw pow-suc at h in
+    let half : w / 2 ≡ 0 = bits_none k (w / 2) (omega arith) (λ i g. sym (bit_half w i) ∙ none (suc i) (omega arith)) in
+    let even : w % 2 ≡ 0 = even_word w (none 0 (omega arith)) in
+    omega arith
 
 -- a number is known by its bits
 pub words_same : (w v : ℕ) → ((i : ℕ) → bit w i ≡ bit v i) → w ≡ v

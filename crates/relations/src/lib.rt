@@ -2,14 +2,18 @@
 // is one on every bit of a word.
 #![tactic(auto)]
 
-ghost use Rattle.std.specs.Prelude.{◌≡◌, ◌&&◌, ◌||◌, [], ◌∷◌, ℕ, ◌-◌, ◌<◌, ◌≤◌, eqb, length};
-ghost use Rattle.automaton.specs.Ranges.{some, next_from, total};
+ghost use Rattle.std.specs.Prelude.{◌≡◌, ◌&&◌, ◌||◌, [], ◌∷◌, ℕ, ◌%◌, ◌^◌, ◌<◌, ◌≤◌, eqb, length};
+ghost use Rattle.automaton.specs.Ranges.{some, total};
 ghost use Rattle.automaton.specs.Sets.{bit, with_bit, member};
 ghost use Rattle.automaton.specs.Automata.{one, transition_bit};
 ghost use Rattle.relations.specs.Closure.{row_has};
 ghost use Rattle.relations.specs.Rows.{with_row, diagonal_rows, round_rows, closed_rows};
 
 use automaton::{Automaton, MAX_LETTERS};
+
+mod states;
+
+pub use states::{States, states_below, states_of};
 
 // Whether state q is in the set.
 pub fn has(set: u32, q: usize) -> bool
@@ -63,16 +67,12 @@ pub fn row(automaton: &Automaton, q: usize, a: usize) -> u32
     )
 }
 
-// The least state of the set from q on; 32 where there is none.
-pub fn next_state(set: u32, q: usize) -> usize
-    requires { q ≤ 32 }
-    ensures { result ≡ next_from (bit set) (32 - q) q }
+// The states of the set below n, as a set.
+fn below(set: u32, n: usize) -> u32
+    requires { n ≤ 32 }
+    ensures { result ≡ set % 2 ^ n }
 {
-    if q < 32 {
-        u32::trailing_zeros(set >> q << q) as usize
-    } else {
-        32
-    }
+    if n < 32 { set % (1 << n) } else { set }
 }
 
 // The number of states of the set below n.
@@ -80,11 +80,7 @@ pub fn count_below(set: u32, n: usize) -> usize
     requires { n ≤ 32 }
     ensures { (result ≡ total (λ q. one (bit set q)) n 0) × (result ≤ 32) }
 {
-    if n < 32 {
-        u32::count_ones(set % (1u32 << n)) as usize
-    } else {
-        u32::count_ones(set) as usize
-    }
+    below(set, n).count_ones() as usize
 }
 
 // Whether the set has a state.

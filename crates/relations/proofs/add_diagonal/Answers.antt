@@ -1,11 +1,11 @@
 -- `relations::add_diagonal` meets its contract. The loop's invariant: each row below p has its own state besides, and the others
 -- are as they were. Assumes nothing.
-use mathlib.Core.Path.{◌≡◌, refl, ap, subst, ◌∙◌}
-use Prim.Native.Nat.{ℕ, ◌≤◌, ◌-◌}
+use mathlib.Core.Path.{◌≡◌, subst}
+use Prim.Native.Nat.{ℕ}
 use native.Mathlib.Omega.{arith}
-use lib.ListN.{length, get_or, length-set}
+use lib.ListN.{get_or}
 use Rattle.automaton.specs.Sets.{with_bit}
-use Rattle.relations.proofs.Rows.{Rewritten, rewriting_begins, rewriting_goes_on, first_rows_changed}
+use Rattle.relations.proofs.Rows.{Rewritten, first_rows_changed}
 use Rattle.relations.proofs.add_diagonal.Goals as goal
 
 pub returns : goal.returns

@@ -1,8 +1,6 @@
 -- `relations::close` meets its contract. The loop's invariant: the rounds by way of the states below k are done. Assumes nothing.
-use mathlib.Core.Path.{◌≡◌, refl, ap, ◌∙◌}
-use Prim.Native.Nat.{ℕ, ◌≤◌, ◌-◌}
+use mathlib.Core.Path.{refl, ◌∙◌}
 use native.Mathlib.Omega.{arith}
-use lib.ListN.{length}
 use Rattle.relations.specs.Rows.{rounds_rows}
 use Rattle.relations.proofs.Rows.{rounds_more}
 use Rattle.relations.proofs.close.Goals as goal

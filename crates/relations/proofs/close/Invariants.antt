@@ -1,10 +1,8 @@
 -- `relations::close` meets its contract. The loop's invariant: the rounds by way of the states below k are done. Assumes nothing.
-use mathlib.Core.Path.{◌≡◌, refl, ap, ◌∙◌}
-use Prim.Native.Nat.{ℕ, ◌≤◌, ◌-◌}
-use native.Mathlib.Omega.{arith}
+use mathlib.Core.Path.{◌≡◌}
+use Prim.Native.Nat.{◌≤◌, ◌-◌}
 use lib.ListN.{length}
 use Rattle.relations.specs.Rows.{rounds_rows}
-use Rattle.relations.proofs.Rows.{rounds_more}
 use Rattle.relations.proofs.close.Given as goal
 
 abbrev pub invariant-loop-k : goal.invariant-loop-k

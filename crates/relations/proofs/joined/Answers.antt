@@ -1,6 +1,5 @@
 -- `relations::joined` meets its contract: each byte below 256 stands below the bytes after it. Assumes nothing.
 use native.Mathlib.Omega.{arith}
-use borrow.Author.Rules.{rules}
 use Rattle.relations.proofs.Rows.{bytes_word}
 use Rattle.relations.proofs.joined.Goals as goal
 

@@ -1,10 +1,10 @@
 -- `relations::round` meets its contract. The loop's invariant: the round is done in the rows below p, and the others are as they
 -- were. Assumes nothing.
-use mathlib.Core.Path.{◌≡◌, refl, subst, ◌∙◌}
-use Prim.Native.Nat.{ℕ, ◌≤◌, ◌-◌}
+use mathlib.Core.Path.{◌≡◌, subst, ◌∙◌}
+use Prim.Native.Nat.{ℕ}
 use native.Mathlib.Omega.{arith}
-use lib.ListN.{length, length-set}
-use Rattle.relations.proofs.Rows.{Rewritten, rewriting_begins, rewriting_goes_on, first_rows_changed, round_row, round_row_lem}
+use lib.ListN.{length-set}
+use Rattle.relations.proofs.Rows.{Rewritten, rewriting_goes_on, first_rows_changed, round_row, round_row_lem}
 use Rattle.relations.proofs.round.Goals as goal
 
 pub loop-p-preserved : goal.loop-p-preserved

@@ -1,10 +1,9 @@
 -- `relations::round` meets its contract. The loop's invariant: the round is done in the rows below p, and the others are as they
 -- were. Assumes nothing.
-use mathlib.Core.Path.{◌≡◌, refl, subst, ◌∙◌}
-use Prim.Native.Nat.{ℕ, ◌≤◌, ◌-◌}
-use native.Mathlib.Omega.{arith}
-use lib.ListN.{length, length-set}
-use Rattle.relations.proofs.Rows.{Rewritten, rewriting_begins, rewriting_goes_on, first_rows_changed, round_row, round_row_lem}
+use mathlib.Core.Path.{◌≡◌}
+use Prim.Native.Nat.{◌≤◌, ◌-◌}
+use lib.ListN.{length}
+use Rattle.relations.proofs.Rows.{Rewritten, round_row}
 use Rattle.relations.proofs.round.Given as goal
 
 abbrev pub invariant-loop-p : goal.invariant-loop-p

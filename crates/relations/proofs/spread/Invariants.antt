@@ -1,15 +1,11 @@
 -- `relations::spread` meets its contract. The loop's invariant: what is found are the members of the rows below p whose state
 -- the set has. Assumes nothing.
-use mathlib.Core.Path.{◌≡◌, sym, ap, ◌∙◌}
-use mathlib.Core.Bool.{Bool, ◌&&◌, ◌||◌}
+use mathlib.Core.Path.{◌≡◌}
+use mathlib.Core.Bool.{◌&&◌}
 use Prim.Native.Nat.{ℕ, ◌≤◌, ◌-◌}
-use native.Mathlib.Omega.{arith}
-use lib.ListN.{get_or}
 use Rattle.automaton.specs.Ranges.{some}
 use Rattle.automaton.specs.Sets.{bit}
 use Rattle.relations.specs.Closure.{row_has}
-use Rattle.automaton.proofs.Bits.{bit_zero}
-use Rattle.relations.proofs.Rows.{some_none, some_more, bit_with_row}
 use Rattle.relations.proofs.spread.Given as goal
 
 abbrev pub invariant-loop-p : goal.invariant-loop-p

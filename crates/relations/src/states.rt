@@ -1,0 +1,60 @@
+// The states of a set, one after the other.
+ghost use Rattle.std.specs.Prelude.{◌≡◌, ◌<◌, ◌≤◌, All};
+ghost use Rattle.std.specs.Iterator.{YieldsFirst, item_count};
+ghost use Rattle.automaton.specs.Ranges.{those};
+ghost use Rattle.automaton.specs.Sets.{bit};
+
+use crate::below;
+use std::marker::Model;
+
+// The states of a set that are left, lowest first; seen as their list.
+#[derive(Drop)]
+pub struct States {
+    rest: u32,
+}
+
+impl Model for States {
+    ghost use Rattle.std.specs.Prelude.{ℕ, List};
+    ghost use Rattle.automaton.specs.Ranges.{those};
+    ghost use Rattle.automaton.specs.Sets.{bit};
+
+    ghost Value = { List ℕ };
+
+    ghost view = { λ s. those (bit s.rest) 32 0 };
+}
+
+impl Iterator for States {
+    type Item = usize;
+
+    ghost next_gives = { YieldsFirst (λ left. left) };
+
+    ghost remaining = { item_count (λ left. left) };
+
+    fn next(&mut self) -> Option<usize> {
+        if self.rest == 0 {
+            return None;
+        }
+        let q = self.rest.trailing_zeros() as usize;
+        self.rest &= self.rest - 1;
+        Some(q)
+    }
+}
+
+// The states of a set, lowest first.
+pub fn states_of(set: u32) -> States
+    ensures states { result ≡ those (bit set) 32 0 }
+    ensures below { All (λ q. q < 32) result }
+{
+    States { rest: set }
+}
+
+// The states of the set below n, lowest first.
+pub fn states_below(set: u32, n: usize) -> States
+    requires { n ≤ 32 }
+    ensures states { result ≡ those (bit set) n 0 }
+    ensures below { All (λ q. q < n) result }
+{
+    States {
+        rest: below(set, n),
+    }
+}
