@@ -1,2 +1,3 @@
 -- Bytes written into a lent buffer.
 pub mod Buffers
+pub mod Cursors

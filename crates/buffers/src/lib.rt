@@ -1,27 +1,43 @@
-// Bytes and texts, written into a lent buffer from a place on.
+// Bytes and texts, written into a lent buffer from its front on.
 #![tactic(auto)]
 
-ghost use Rattle.std.specs.Prelude.{[], ◌∷◌, ◌+◌, ◌<◌, ◌≤◌, length};
-ghost use Rattle.buffers.specs.Buffers.{WrittenAt};
+ghost use Rattle.std.specs.Prelude.{◌≡◌, [], ◌∷◌, length};
 
-// Writes a byte into the buffer at a place, and answers the place behind it.
-pub fn put_byte(out: &mut [u8], at: usize, byte: u8) -> usize
-    requires { at < length out.old }
-    ensures { WrittenAt out.old at (byte ∷ []) out.new result }
-{
-    out[at] = byte;
-    at + 1
+// A lent buffer, and the place up to which it is written.
+#[derive(Drop)]
+pub struct Cursor<'a> {
+    pub out: &'a mut [u8],
+    pub at: usize,
 }
 
-// Writes a text into the buffer from a place on, and answers the place behind it.
-pub fn put_text(out: &mut [u8], at: usize, text: &[u8]) -> usize
-    requires { at + length text.now ≤ length out.old }
-    ensures { WrittenAt out.old at text.now out.new result }
-{
-    let mut i: usize = 0;
-    while i < text.len() {
-        out[at + i] = text[i];
-        i += 1;
+impl<'a> Cursor<'a> {
+    ghost use Rattle.buffers.specs.Cursors.{HasRoom, Added};
+
+    // The front of a buffer, of which nothing is written yet.
+    pub fn new(out: &'a mut [u8]) -> Cursor<'a>
+        ensures same_buffer { result.out.ghost_name ≡ out.entry.ghost_name }
+        ensures out { result.out.now ≡ out.old }
+        ensures at { result.at ≡ 0 }
+    {
+        Cursor { out, at: 0 }
     }
-    at + text.len()
+
+    // Writes a byte behind what is written.
+    pub fn put_byte(&mut self, byte: u8)
+        requires { HasRoom self.old 1 }
+        ensures { Added self.old (byte ∷ []) self.new }
+    {
+        self.out[self.at] = byte;
+        self.at += 1;
+    }
+
+    // Writes a text behind what is written.
+    pub fn put_text(&mut self, text: &[u8])
+        requires { HasRoom self.old (length text.now) }
+        ensures { Added self.old text.now self.new }
+    {
+        let next = self.at + text.len();
+        self.out[self.at..next].copy_from_slice(text);
+        self.at = next;
+    }
 }

@@ -8,9 +8,10 @@ use native.Mathlib.Omega.{arith}
 use lib.Dec.{ltb}
 use lib.ListN.{length, length-append}
 use borrow.Author.Tests.{lt-ltb, le-ltb, ltb-true, ltb-false}
-use Rattle.buffers.specs.Buffers.{WrittenAt}
+use Rattle.buffers.specs.declared.Cursor.{Cursor}
+use Rattle.buffers.specs.Cursors.{Added}
 use Rattle.text.specs.Text.{digits, decimal}
-use Rattle.buffers.proofs.Buffers.{written_append, written_as}
+use Rattle.buffers.proofs.Cursors.{added_append, added_as}
 
 -- one digit
 digits_digit : (k n : ℕ) → n < 10 → digits (suc k) n ≡ (0x30 + n) ∷ []
@@ -61,10 +62,10 @@ pub decimal_more_length : (n : ℕ) → 10 ≤ n → length (decimal n) ≡ leng
 decimal_more_length n h = ap length (decimal_more n h) ∙ length-append (decimal (n / 10)) ((0x30 + n % 10) ∷ [])
 
 -- a single digit is written, and a last digit behind the others
-pub written_digit : {d e : List ℕ} {at r : ℕ} (n b : ℕ) → n < 10 → b ≡ 0x30 + n → WrittenAt d at (b ∷ []) e r → WrittenAt d at (decimal n) e r
-written_digit n b h q w = written_as (ap (λ (x : ℕ). x ∷ []) q ∙ sym (decimal_digit n h)) w
+pub added_digit : {c d : Cursor} (n b : ℕ) → n < 10 → b ≡ 0x30 + n → Added c (b ∷ []) d → Added c (decimal n) d
+added_digit n b h q w = added_as (ap (λ (x : ℕ). x ∷ []) q ∙ sym (decimal_digit n h)) w
 
-pub written_last_digit : {d e f : List ℕ} {at next r : ℕ} (n b : ℕ) → 10 ≤ n
-    → WrittenAt d at (decimal (n / 10)) e next → b ≡ 0x30 + n % 10 → WrittenAt e next (b ∷ []) f r → WrittenAt d at (decimal n) f r
-written_last_digit n b h u q w =
-    written_as (ap (λ (x : ℕ). decimal (n / 10) ++ (x ∷ [])) q ∙ sym (decimal_more n h)) (written_append u w)
+pub added_last_digit : {c d e : Cursor} (n b : ℕ) → 10 ≤ n
+    → Added c (decimal (n / 10)) d → b ≡ 0x30 + n % 10 → Added d (b ∷ []) e → Added c (decimal n) e
+added_last_digit n b h u q w =
+    added_as (ap (λ (x : ℕ). decimal (n / 10) ++ (x ∷ [])) q ∙ sym (decimal_more n h)) (added_append u w)

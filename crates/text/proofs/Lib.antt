@@ -1,5 +1,4 @@
 -- Laws of numbers and letters as text.
 pub mod Decimals
 pub mod Letters
-pub mod Percent
 pub mod Examples

@@ -1,10 +1,10 @@
-// Numbers and letters, written into a line from a place on.
+// Numbers and letters, written behind what stands on a line.
 ghost use Rattle.std.specs.Prelude.{◌≡◌, ◌++◌, ◌+◌, ◌*◌, ◌<◌, ◌≤◌, length};
-ghost use Rattle.buffers.specs.Buffers.{WrittenAt};
+ghost use Rattle.buffers.specs.Cursors.{HasRoom, Added};
 ghost use Rattle.text.specs.Text.{decimal, space};
 ghost use Rattle.text.specs.Text.{letters as letters_text};
 
-use buffers::{put_byte, put_text};
+use buffers::Cursor;
 
 // The byte of a decimal digit.
 fn digit(n: usize) -> u8
@@ -15,57 +15,54 @@ fn digit(n: usize) -> u8
 }
 
 // Writes a number in decimal, the digits before the last one first.
-fn put_digits(line: &mut [u8], at: usize, n: usize) -> usize
-    requires { at + length (decimal n) ≤ length line.old }
-    ensures { WrittenAt line.old at (decimal n) line.new result }
+fn put_digits(line: &mut Cursor, n: usize)
+    requires { HasRoom line.old (length (decimal n)) }
+    ensures { Added line.old (decimal n) line.new }
 {
     if n < 10 {
-        return put_byte(line, at, digit(n));
+        line.put_byte(digit(n));
+    } else {
+        put_digits(line, n / 10);
+        line.put_byte(digit(n % 10));
     }
-    let next = put_digits(line, at, n / 10);
-    put_byte(line, next, digit(n % 10))
 }
 
-// Writes a number in decimal from a place on, at most 20 bytes, and answers the place behind it.
-pub fn put_decimal(line: &mut [u8], at: usize, n: usize) -> usize
-    requires { at + 20 ≤ length line.old }
-    ensures written_at { WrittenAt line.old at (decimal n) line.new result }
-    ensures upper_bound { result ≤ at + 20 }
+// Writes a number in decimal, at most 20 bytes.
+pub fn put_decimal(line: &mut Cursor, n: usize)
+    requires { HasRoom line.old 20 }
+    ensures added { Added line.old (decimal n) line.new }
+    ensures upper_bound { line.new.at ≤ line.old.at + 20 }
 {
-    put_digits(line, at, n)
+    put_digits(line, n);
 }
 
-// Writes a letter in decimal after a space, at most 4 bytes, and answers the place behind it.
-fn put_letter(line: &mut [u8], at: usize, letter: u8) -> usize
-    requires { at + 4 ≤ length line.old }
-    ensures written_at { WrittenAt line.old at (space ++ decimal letter) line.new result }
-    ensures upper_bound { result ≤ at + 4 }
+// Writes a letter in decimal after a space, at most 4 bytes.
+fn put_letter(line: &mut Cursor, letter: u8)
+    requires { HasRoom line.old 4 }
+    ensures added { Added line.old (space ++ decimal letter) line.new }
+    ensures upper_bound { line.new.at ≤ line.old.at + 4 }
 {
-    let next = put_byte(line, at, b' ');
-    put_digits(line, next, letter as usize)
+    line.put_byte(b' ');
+    put_digits(line, letter as usize);
 }
 
-// Writes the letters of a word in decimal, each after a space, and answers the place behind them.
-pub fn put_letters(line: &mut [u8], at: usize, word: &[u8]) -> usize
-    requires { at + 4 * length word.now ≤ length line.old }
-    ensures written_at { WrittenAt line.old at (letters_text word.now) line.new result }
-    ensures upper_bound { result ≤ at + 4 * length word.now }
+// Writes the letters of a word in decimal, each after a space.
+pub fn put_letters(line: &mut Cursor, word: &[u8])
+    requires { HasRoom line.old (4 * length word.now) }
+    ensures added { Added line.old (letters_text word.now) line.new }
+    ensures upper_bound { line.new.at ≤ line.old.at + 4 * length word.now }
 {
-    let mut next = at;
-    let mut i: usize = 0;
-    while i < word.len() {
-        next = put_letter(line, next, word[i]);
-        i += 1;
+    for letter in word {
+        put_letter(line, *letter);
     }
-    next
 }
 
-// Writes a text and a number behind it, and answers the place behind them.
-pub fn put_field(line: &mut [u8], at: usize, text: &[u8], n: usize) -> usize
-    requires { at + length text.now + 20 ≤ length line.old }
-    ensures written_at { WrittenAt line.old at (text.now ++ decimal n) line.new result }
-    ensures upper_bound { result ≤ at + length text.now + 20 }
+// Writes a text and a number behind it.
+pub fn put_field(line: &mut Cursor, text: &[u8], n: usize)
+    requires { HasRoom line.old (length text.now + 20) }
+    ensures added { Added line.old (text.now ++ decimal n) line.new }
+    ensures upper_bound { line.new.at ≤ line.old.at + length text.now + 20 }
 {
-    let next = put_text(line, at, text);
-    put_decimal(line, next, n)
+    line.put_text(text);
+    put_decimal(line, n);
 }

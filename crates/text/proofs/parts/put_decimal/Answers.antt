@@ -6,8 +6,5 @@ use Rattle.text.proofs.parts.put_decimal.Goals as goal
 pub put_digits-requires : goal.put_digits-requires
 put_digits-requires c = omega (arith, decimal_length 19 c.args.n (omega arith))
 
-pub returns : goal.returns
-returns c = let r = c.put_digits in record {
-  written_at = r.ensures;
-  upper_bound = omega (arith, r.ensures.behind, decimal_length 19 c.args.n (omega arith));
-}
+pub returns-clause-upper_bound : goal.returns-clause-upper_bound
+returns-clause-upper_bound c = omega (arith, decimal_length 19 c.args.n (omega arith))

@@ -1,21 +1,22 @@
--- `text::parts::put_letters` meets its contract. The loop's invariant: the first i letters are written, in at most 4 bytes each.
+-- `text::parts::put_letters` meets its contract. The loop's invariant: the letters before the index are written, in at most 4 bytes each.
 -- Assumes nothing.
 use mathlib.Core.Path.{sym}
 use native.Mathlib.Omega.{arith}
 use Rattle.text.specs.Text.{letters}
-use Rattle.buffers.proofs.Buffers.{written_nothing, written_append, written_as}
+use Rattle.buffers.proofs.Cursors.{added_nothing, added_append, added_as, added_length}
 use Rattle.text.proofs.Letters.{letters_more}
 use Rattle.text.proofs.parts.put_letters.Goals as goal
 
-pub loop-i-init : goal.loop-i-init
+pub loop-letter-init : goal.loop-letter-init
 unfolding letters
-loop-i-init c = let a = c.args in (omega arith, omega arith, written_nothing a.line.now a.at (omega arith))
+loop-letter-init c = record { added = added_nothing c.args.line.now (omega arith); upper_bound = omega arith }
 
-pub loop-i-preserved : goal.loop-i-preserved
-loop-i-preserved c = let a = c.args in
-    let l = c.loop-i in
-    let r = c.put_letter-next in (
-      omega arith,
-      omega (arith, r.ensures.upper_bound),
-      written_as (sym (letters_more a.word.now l.i (omega arith))) (written_append l.invariant.2 r.ensures.written_at),
-    )
+pub put_letter-requires : goal.put_letter-requires
+put_letter-requires c = omega (arith, added_length c.loop-letter.invariant.added)
+
+pub loop-letter-preserved : goal.loop-letter-preserved
+loop-letter-preserved c = let l = c.loop-letter in
+    record {
+      added = added_as (sym (letters_more c.args.word.now l.letter-index (omega arith))) (added_append l.invariant.added c.put_letter.ensures.added);
+      upper_bound = omega arith;
+    }

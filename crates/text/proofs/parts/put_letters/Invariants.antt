@@ -1,13 +1,13 @@
--- `text::parts::put_letters` meets its contract. The loop's invariant: the first i letters are written, in at most 4 bytes each.
+-- `text::parts::put_letters` meets its contract. The loop's invariant: the letters before the index are written, in at most 4 bytes each.
 -- Assumes nothing.
-use Prim.Native.Nat.{◌+◌, ◌-◌, ◌*◌, ◌≤◌}
-use lib.ListN.{length, take}
-use Rattle.buffers.specs.Buffers.{WrittenAt}
+use Prim.Native.Nat.{◌+◌, ◌*◌, ◌≤◌}
+use lib.ListN.{take}
+use Rattle.buffers.specs.Cursors.{Added}
 use Rattle.text.specs.Text.{letters}
 use Rattle.text.proofs.parts.put_letters.Given as goal
 
-abbrev pub invariant-loop-i : goal.invariant-loop-i
-invariant-loop-i l = (l.i ≤ length l.word) × (l.next ≤ l.at + 4 * l.i) × WrittenAt l.initial.line l.at (letters (take l.i l.word)) l.line l.next
-
-abbrev pub decreases-loop-i : goal.decreases-loop-i
-decreases-loop-i l = length l.word - l.i
+abbrev pub invariant-loop-letter : goal.invariant-loop-letter
+invariant-loop-letter l = record {
+  added : Added l.initial.line (letters (take l.letter-index l.word)) l.line;
+  upper_bound : l.line.at ≤ l.initial.line.at + 4 * l.letter-index;
+}
