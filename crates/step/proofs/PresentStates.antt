@@ -13,7 +13,7 @@ use borrow.Author.Count.{below_more}
 use borrow.Author.Tests.{ltb-true, ltb-false, lt-ltb}
 use lib.Dec.{T, ltb}
 use lib.ListN.{length, get_or, take, set, length-append, length-set, replicate}
-use lib.Seq.{get_or-take, take-set-le, take-suc-set}
+use lib.Seq.{take-set-le, take-suc-set}
 use Rattle.automaton.specs.Automata.{max_states}
 use Rattle.automaton.specs.Ranges.{those, table, largest}
 use Rattle.automaton.proofs.Ranges.{those_has, table_at}
@@ -73,41 +73,40 @@ member_place {a} (x ∷ l) m =
 
 -- What the list of the states present says.
 
-module _ (count : ℕ) (places f : List ℕ) (n : ℕ) (P : PresentOf count places f n) where
-  place_is : (i : ℕ) → i < count → get_or places i 0 ≡ get_or (present_states f n) i 0
-  place_is i h =
-      sym (get_or-take count places i 0 h) ∙ ap (λ (l : List ℕ). get_or l i 0) P.places_are
+module _ (f : List ℕ) (n : ℕ) where
+  pub present_few : length (present_states f n) ≤ n
+  present_few = those_few (λ p. ltb 0 (get_or f p 0)) n 0
 
-  pub present_few : count ≤ n
-  present_few = omega (arith, P.count_is, those_few (λ p. ltb 0 (get_or f p 0)) n 0)
+  pub present_below : (i : ℕ) → i < length (present_states f n) → get_or (present_states f n) i 0 < n
+  present_below i h = omega (arith, those_below (λ p. ltb 0 (get_or f p 0)) n 0 i h)
 
-  pub present_below : (i : ℕ) → i < count → get_or places i 0 < n
-  present_below i h =
-      omega (arith, place_is i h, those_below (λ p. ltb 0 (get_or f p 0)) n 0 i (omega (arith, P.count_is)))
-
-  present_all : (p : ℕ) → p < n → 0 < get_or f p 0 → (i : ℕ) × (i < count) × (get_or places i 0 ≡ p)
+  present_all : (p : ℕ) → p < n → 0 < get_or f p 0 → (i : ℕ) × (i < length (present_states f n)) × (get_or (present_states f n) i 0 ≡ p)
   present_all p h g =
       let t : T (ltb 0 (get_or f (0 + p) 0)) = is_true _ (ap (λ (k : ℕ). ltb 0 (get_or f k 0)) (zero-add p) ∙ lt-ltb 0 (get_or f p 0) g) in
       let r = member_place (present_states f n) (those_has (λ p. ltb 0 (get_or f p 0)) n 0 p h t) in
-      let l : r.0 < count = omega (arith, r.1, P.count_is) in
-      (r.0, l, place_is r.0 l ∙ r.2 ∙ zero-add p)
+      (r.0, r.1, r.2 ∙ zero-add p)
 
   -- states that are not listed have no counter above 0
   pub largest_listed : (g : ℕ → ℕ) → ((p : ℕ) → p < n → get_or f p 0 ≤ 0 → g p ≤ 0)
-      → largest (λ j. g (get_or places j 0)) count 0 ≡ largest g n 0
+      → largest (λ j. g (get_or (present_states f n) j 0)) (length (present_states f n)) 0 ≡ largest g n 0
   largest_listed g none = omega (arith, most, least)
     where
-      most : largest (λ j. g (get_or places j 0)) count 0 ≤ largest g n 0
-      most = largest_le (λ j. g (get_or places j 0)) count (largest g n 0) (λ i h. largest_bound g n _ (present_below i h))
+      count : ℕ
+      count = length (present_states f n)
 
-      one : (p : ℕ) → p < n → (c : Bool) → ltb 0 (get_or f p 0) ≡ c → g p ≤ largest (λ j. g (get_or places j 0)) count 0
+      of_place : ℕ → ℕ
+      of_place j = g (get_or (present_states f n) j 0)
+
+      most : largest of_place count 0 ≤ largest g n 0
+      most = largest_le of_place count (largest g n 0) (λ i h. largest_bound g n _ (present_below i h))
+
+      one : (p : ℕ) → p < n → (c : Bool) → ltb 0 (get_or f p 0) ≡ c → g p ≤ largest of_place count 0
       one p h true e =
           let w = present_all p h (ltb-true 0 (get_or f p 0) e) in
-          subst (λ (q : ℕ). g q ≤ largest (λ j. g (get_or places j 0)) count 0) w.2
-          (largest_bound (λ j. g (get_or places j 0)) count w.0 w.1)
+          subst (λ (q : ℕ). g q ≤ largest of_place count 0) w.2 (largest_bound of_place count w.0 w.1)
       one p h false e = omega (arith, none p h (ltb-false 0 (get_or f p 0) e))
 
-      least : largest g n 0 ≤ largest (λ j. g (get_or places j 0)) count 0
+      least : largest g n 0 ≤ largest of_place count 0
       least = largest_le g n _ (λ p h. one p h (ltb 0 (get_or f p 0)) refl)
 
 -- The states below p are listed, one after the other.
@@ -117,7 +116,7 @@ pub record Listing (f : List ℕ) (count : ℕ) (places : List ℕ) (p : ℕ) : 
   pub listed : PresentOf count places f p
 
 pub listing_few : (f : List ℕ) (count : ℕ) (places : List ℕ) (p : ℕ) → Listing f count places p → count ≤ p
-listing_few f count places p L = present_few count places f p L.listed
+listing_few f count places p L = let few = present_few f p in omega (arith, L.listed.count_is)
 
 pub listing_none : (f places : List ℕ) → length places ≡ max_states → Listing f 0 places 0
 unfolding those

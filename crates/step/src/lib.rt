@@ -3,7 +3,7 @@
 #![tactic(auto)]
 
 ghost use Rattle.std.specs.Prelude.{◌≡◌, cond, ◌&&◌, not, ◌+◌, ◌<◌, ◌≤◌, max, min, ltb, length, get_or};
-ghost use Rattle.automaton.specs.Automata.{max_states};
+ghost use Rattle.automaton.specs.Automata.{max_states, one};
 ghost use Rattle.automaton.specs.Ranges.{table};
 ghost use Rattle.graph.specs.LagGraph.{max_bound};
 ghost use Rattle.step.specs.Masks.{row_place};
@@ -12,33 +12,19 @@ ghost use Rattle.step.specs.Steps.{PresentOf, all_largest, tops_of, counter_at, 
 pub mod masks;
 pub mod present;
 
-use automaton::MAX_STATES;
+use automaton::{Automaton, MAX_STATES, is_member};
+use present::Present;
 use slots::Vertex;
 
-// The larger of two counters.
-fn larger(x: u8, y: u8) -> u8
-    ensures { result ≡ max x y }
-{
-    if x < y { y } else { x }
-}
-
-// The smaller of two numbers. Of a counter and a mask it is the counter where the mask is 255, and 0 where it is 0.
-fn smaller(x: u8, y: u8) -> u8
-    ensures { result ≡ min x y }
-{
-    if x < y { x } else { y }
-}
-
-// Raises the targets of a right state to its counter; their masks stand from place `at` on.
+// Raises the targets of a right state to its counter; their masks stand from place `at` on. The smaller of a counter and a mask is the counter
+// where the mask is 255, and 0 where it is 0.
 fn raised(masks: &[u8], at: usize, counter: u8, largest: [u8; 32]) -> [u8; 32]
     requires { at + max_states ≤ length masks.now }
     ensures { result ≡ table (λ r. max (get_or largest r 0) (min counter (get_or masks.now (at + r) 0))) max_states 0 }
 {
     let mut after = largest;
-    let mut r: usize = 0;
-    while r < MAX_STATES {
-        after[r] = larger(after[r], smaller(counter, masks[at + r]));
-        r += 1;
+    for r in 0..MAX_STATES {
+        after[r] = after[r].max(counter.min(masks[at + r]));
     }
     after
 }
@@ -48,18 +34,16 @@ pub fn largest_into(
     masks: &[u8],
     states: usize,
     letter: usize,
-    count: usize,
-    places: &[u8; 32],
+    present: &Present,
     counters: &[u8; 32],
 ) -> [u8; 32]
     requires { (states ≤ max_states) × (row_place states letter states ≤ length masks.now)
-        × PresentOf count places.now counters.now states }
+        × PresentOf present.now.count present.now.places counters.now states }
     ensures { result ≡ all_largest masks.now states letter counters.now }
 {
     let mut largest = [0u8; 32];
-    let mut i: usize = 0;
-    while i < count {
-        let p = places[i] as usize;
+    for place in present.listed() {
+        let p = *place as usize;
         let higher = raised(
             masks,
             (letter * states + p) * MAX_STATES,
@@ -67,22 +51,19 @@ pub fn largest_into(
             largest,
         );
         largest = higher;
-        i += 1;
     }
     largest
 }
 
 // For each right state the counter that it is raised to: `top` where it accepts, and 0 where it does not.
-pub fn tops_of(accepting: &[u8; 4], top: u8) -> [u8; 32]
-    ensures { result ≡ tops_of accepting.now top }
+pub fn tops_of(automaton: &Automaton, top: u8) -> [u8; 32]
+    ensures { result ≡ tops_of automaton.now.accepting top }
 {
     let mut tops = [0u8; 32];
-    let mut r: usize = 0;
-    while r < MAX_STATES {
-        if automaton::accepts_in(accepting, r) {
+    for r in 0..MAX_STATES {
+        if is_member(&automaton.accepting, r) {
             tops[r] = top;
         }
-        r += 1;
     }
     tops
 }
@@ -95,23 +76,21 @@ fn raised_to(top: u8, largest: u8) -> u8
 }
 
 // The counter of a right state after a step, from the largest of its predecessors' counters. It accepts if its `top` is above 0.
-fn counter_at(top: u8, visits: u8, largest: u8) -> u8
-    ensures { result ≡ counter_at top visits largest }
+fn counter_at(top: u8, visits: bool, largest: u8) -> u8
+    ensures { result ≡ counter_at top (one visits) largest }
 {
-    let plain = largest - smaller(largest, visits);
+    let plain = largest.saturating_sub(visits as u8);
     let raised = raised_to(top, largest);
     if top == 0 { plain } else { raised }
 }
 
-// The counters of all right states after a step to a left target; `visits` is 1 where the target accepts, and 0 where it does not.
-pub fn counters_after(tops: &[u8; 32], visits: u8, largest: [u8; 32]) -> [u8; 32]
-    ensures { result ≡ stepped_counters tops.now visits largest }
+// The counters of all right states after a step to a left target; `visits` says whether the target accepts.
+pub fn counters_after(tops: &[u8; 32], visits: bool, largest: [u8; 32]) -> [u8; 32]
+    ensures { result ≡ stepped_counters tops.now (one visits) largest }
 {
     let mut after = [0u8; 32];
-    let mut r: usize = 0;
-    while r < MAX_STATES {
+    for r in 0..MAX_STATES {
         after[r] = counter_at(tops[r], visits, largest[r]);
-        r += 1;
     }
     after
 }
@@ -121,32 +100,24 @@ fn first_counter(left_accepts: bool, right_accepts: bool, bound: usize) -> u8
     requires { bound ≤ max_bound }
     ensures { result ≡ cond (left_accepts && not right_accepts) bound (bound + 1) }
 {
-    if left_accepts {
-        if right_accepts {
-            return (bound + 1) as u8;
-        }
-        return bound as u8;
+    if left_accepts && !right_accepts {
+        bound as u8
+    } else {
+        (bound + 1) as u8
     }
-    (bound + 1) as u8
 }
 
-// The initial vertex of two automata that have these initial states and these sets of accepting states.
-pub fn initial_vertex(
-    left_initial: usize,
-    left_accepting: &[u8; 4],
-    right_initial: usize,
-    right_accepting: &[u8; 4],
-    bound: usize,
-) -> Vertex
-    requires { (left_initial < max_states) × (right_initial < max_states) × (bound ≤ max_bound) }
-    ensures { result ≡ initial_from left_initial left_accepting.now right_initial right_accepting.now bound }
+// The initial vertex of two automata.
+pub fn initial_vertex(left: &Automaton, right: &Automaton, bound: usize) -> Vertex
+    requires { (left.now.initial < max_states) × (right.now.initial < max_states) × (bound ≤ max_bound) }
+    ensures { result ≡ initial_from left.now.initial left.now.accepting right.now.initial right.now.accepting bound }
 {
-    let left_accepts = automaton::accepts_in(left_accepting, left_initial);
-    let right_accepts = automaton::accepts_in(right_accepting, right_initial);
+    let left_accepts = is_member(&left.accepting, left.initial);
+    let right_accepts = is_member(&right.accepting, right.initial);
     let mut counters = [0u8; 32];
-    counters[right_initial] = first_counter(left_accepts, right_accepts, bound);
+    counters[right.initial] = first_counter(left_accepts, right_accepts, bound);
     Vertex {
-        left: left_initial as u8,
+        left: left.initial as u8,
         counters,
     }
 }

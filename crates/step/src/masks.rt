@@ -4,7 +4,7 @@ ghost use Rattle.std.specs.Prelude.{◌≡◌, ◌+◌, ◌*◌, ◌<◌, ◌≤
 ghost use Rattle.automaton.specs.Automata.{max_states, max_letters};
 ghost use Rattle.step.specs.Masks.{mask, row_place, row_masks, letter_masks, masks_after};
 
-use automaton::MAX_STATES;
+use automaton::{Automaton, MAX_STATES};
 
 // The mask of a test.
 fn mask(test: bool) -> u8
@@ -14,38 +14,33 @@ fn mask(test: bool) -> u8
 }
 
 // Writes the masks of the targets of p on a letter; the other bytes stay.
-fn fill_row(masks: &mut [u8], transitions: &[u8; 2048], states: usize, p: usize, letter: usize)
-    requires { (p < max_states) × (letter < max_letters) × (row_place states letter p + max_states ≤ length masks.old) }
-    ensures { masks.new ≡ row_masks transitions.now states p letter masks.old }
+fn fill_row(masks: &mut [u8], automaton: &Automaton, p: usize, letter: usize)
+    requires { (p < max_states) × (letter < max_letters) × (row_place automaton.now.states letter p + max_states ≤ length masks.old) }
+    ensures { masks.new ≡ row_masks automaton.now.transitions automaton.now.states p letter masks.old }
 {
-    let at = (letter * states + p) * MAX_STATES;
-    let mut r: usize = 0;
-    while r < MAX_STATES {
-        masks[at + r] = mask(automaton::transition_in(transitions, p, letter, r));
-        r += 1;
+    let at = (letter * automaton.states + p) * MAX_STATES;
+    for r in 0..MAX_STATES {
+        masks[at + r] = mask(automaton.has_transition(p, letter, r));
     }
 }
 
-// Writes the masks of the states below `states` on a letter; the other bytes stay.
-fn fill_letter(masks: &mut [u8], transitions: &[u8; 2048], states: usize, letter: usize)
-    requires { (states ≤ max_states) × (letter < max_letters) × (row_place states letter states ≤ length masks.old) }
-    ensures { masks.new ≡ letter_masks transitions.now states letter masks.old }
+// Writes the masks of the automaton's states on a letter; the other bytes stay.
+fn fill_letter(masks: &mut [u8], automaton: &Automaton, letter: usize)
+    requires { (automaton.now.states ≤ max_states) × (letter < max_letters)
+        × (row_place automaton.now.states letter automaton.now.states ≤ length masks.old) }
+    ensures { masks.new ≡ letter_masks automaton.now.transitions automaton.now.states letter masks.old }
 {
-    let mut p: usize = 0;
-    while p < states {
-        fill_row(masks, transitions, states, p, letter);
-        p += 1;
+    for p in 0..automaton.states {
+        fill_row(masks, automaton, p, letter);
     }
 }
 
-// Writes the masks of the states below `states` on the letters below `letters`; the other bytes stay.
-pub fn fill(masks: &mut [u8], transitions: &[u8; 2048], states: usize, letters: usize)
-    requires { (states ≤ max_states) × (letters ≤ max_letters) × (letters * states * max_states ≤ length masks.old) }
-    ensures { masks.new ≡ masks_after transitions.now states letters masks.old }
+// Writes the masks of the automaton's states on the letters below `letters`, those of the left automaton; the other bytes stay.
+pub fn fill(masks: &mut [u8], automaton: &Automaton, letters: usize)
+    requires { (automaton.now.states ≤ max_states) × (letters ≤ max_letters) × (letters * automaton.now.states * max_states ≤ length masks.old) }
+    ensures { masks.new ≡ masks_after automaton.now.transitions automaton.now.states letters masks.old }
 {
-    let mut a: usize = 0;
-    while a < letters {
-        fill_letter(masks, transitions, states, a);
-        a += 1;
+    for a in 0..letters {
+        fill_letter(masks, automaton, a);
     }
 }

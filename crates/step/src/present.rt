@@ -1,5 +1,5 @@
 // The right states that have a counter above 0, listed once for all letters on which a place is expanded.
-ghost use Rattle.std.specs.Prelude.{◌≡◌, cond, ◌+◌, ◌<◌, ◌≤◌, ltb};
+ghost use Rattle.std.specs.Prelude.{◌≡◌, cond, ◌+◌, ◌<◌, ◌≤◌, ltb, take};
 ghost use Rattle.automaton.specs.Automata.{max_states};
 ghost use Rattle.step.specs.Steps.{PresentOf, places_after};
 
@@ -8,6 +8,16 @@ ghost use Rattle.step.specs.Steps.{PresentOf, places_after};
 pub struct Present {
     pub count: usize,
     pub places: [u8; 32],
+}
+
+impl Present {
+    // The states that are listed.
+    pub fn listed(&self) -> &[u8]
+        requires { self.now.count ≤ 32 }
+        ensures { result.now ≡ take self.now.count self.now.places }
+    {
+        &self.places[..self.count]
+    }
 }
 
 // One more where the counter is above 0. A call of it also tells its caller that a counter is below 256.
@@ -26,11 +36,9 @@ pub fn present_of(counters: [u8; 32], states: usize) -> Present
 {
     let mut places = [0u8; 32];
     let mut count: usize = 0;
-    let mut p: usize = 0;
-    while p < states {
+    for p in 0..states {
         places[count] = p as u8;
         count = counted(count, counters[p]);
-        p += 1;
     }
     Present { count, places }
 }

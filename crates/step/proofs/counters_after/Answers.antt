@@ -6,4 +6,4 @@ use Rattle.step.proofs.counters_after.Goals as goal
 
 pub returns : goal.returns
 unfolding stepped_counters
-returns c = written_all (omega arith) c.loop-r.invariant.1
+returns c = written_all (omega arith) c.loop-r.invariant

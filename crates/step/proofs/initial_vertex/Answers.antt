@@ -9,7 +9,7 @@ use Rattle.step.proofs.initial_vertex.Goals as goal
 pub returns : goal.returns
 returns c = let s = c in
     let a = s.args in
-    let e = ap₂ (λ (y z : Bool). cond (y && not z) a.bound (a.bound + 1)) c.accepts_in-left_accepts.ensures
-    c.accepts_in-right_accepts.ensures in
-    initial_made a.left_initial a.left_accepting.now a.right_initial a.right_accepting.now a.bound c.first_counter.result
+    let e = ap₂ (λ (y z : Bool). cond (y && not z) a.bound (a.bound + 1)) c.is_member-left_accepts.ensures
+    c.is_member-right_accepts.ensures in
+    initial_made a.left.now.initial a.left.now.accepting a.right.now.initial a.right.now.accepting a.bound c.first_counter.result
     (omega arith) (c.first_counter.ensures ∙ e)

@@ -4,4 +4,4 @@ use Rattle.step.proofs.SteppedBytes.{written_all}
 use Rattle.step.proofs.raised.Goals as goal
 
 pub returns : goal.returns
-returns c = written_all (omega arith) c.loop-r.invariant.1
+returns c = written_all (omega arith) c.loop-r.invariant.0

@@ -10,8 +10,8 @@ use Rattle.step.proofs.SteppedBytes.{written_all}
 use Rattle.step.proofs.tops_of.Goals as goal
 
 pub loop-r-init : goal.loop-r-init
-loop-r-init c = (search rules, record { written = record { long = search rules; done = below_none _ }; rest = λ k h l. get_or-replicate {A = ℕ} max_states k 0 0 l })
+loop-r-init c = record { written = record { long = search rules; done = below_none _ }; rest = λ k h l. get_or-replicate {A = ℕ} max_states k 0 0 l }
 
 pub returns : goal.returns
 unfolding tops_of
-returns c = written_all (omega arith) c.loop-r.invariant.1.written
+returns c = written_all (omega arith) c.loop-r.invariant.written

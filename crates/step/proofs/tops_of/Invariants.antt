@@ -2,7 +2,7 @@
 use mathlib.Core.Path.{◌≡◌}
 use mathlib.Core.Bool.{cond}
 use mathlib.Core.List.{List}
-use Prim.Native.Nat.{ℕ, ◌-◌, ◌≤◌, ◌<◌}
+use Prim.Native.Nat.{ℕ, ◌≤◌, ◌<◌}
 use lib.ListN.{get_or}
 use Rattle.automaton.specs.Automata.{max_states}
 use Rattle.automaton.specs.Sets.{member}
@@ -14,7 +14,4 @@ pub record TopsBelow (s : List ℕ) (top : ℕ) (l : List ℕ) (r : ℕ) : Type 
   pub rest : (k : ℕ) → r ≤ k → k < max_states → get_or l k 0 ≡ 0
 
 abbrev pub invariant-loop-r : goal.invariant-loop-r
-invariant-loop-r l = (l.r ≤ max_states) × TopsBelow l.accepting l.top l.tops l.r
-
-abbrev pub decreases-loop-r : goal.decreases-loop-r
-decreases-loop-r l = max_states - l.r
+invariant-loop-r l = TopsBelow l.automaton.accepting l.top l.tops l.r

@@ -7,9 +7,9 @@ use Rattle.step.proofs.masks.fill.Goals as goal
 
 pub loop-a-init : goal.loop-a-init
 unfolding masks_after
-loop-a-init c = (search rules, refl, search rules, refl)
+loop-a-init c = (refl, search rules, refl)
 
 pub loop-a-preserved : goal.loop-a-preserved
 loop-a-preserved c = let l = c.loop-a in
     let w = c.fill_letter in
-    (search rules, w.auto.masks ∙ l.invariant.1, l.invariant.2, letters_next _ _ l.a _ _ _ l.invariant.3 w.ensures)
+    (w.auto.masks ∙ l.invariant.0, l.invariant.1, letters_next _ _ l.a _ _ _ l.invariant.2 w.ensures)

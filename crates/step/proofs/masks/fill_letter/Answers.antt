@@ -6,14 +6,13 @@ use Rattle.step.proofs.MaskRows.{rows_none, rows_next}
 use Rattle.step.proofs.masks.fill_letter.Goals as goal
 
 pub loop-p-init : goal.loop-p-init
-loop-p-init c = let a = c.args in (search rules, search rules, refl, rows_none a.transitions.now a.states a.letter a.masks.now)
+loop-p-init c = let a = c.args in (search rules, refl, rows_none a.automaton.now.transitions a.automaton.now.states a.letter a.masks.now)
 
 pub loop-p-preserved : goal.loop-p-preserved
 loop-p-preserved c = let l = c.loop-p in
     let a = c.args in
     let w = c.fill_row in (
-      search rules,
-      l.invariant.1,
-      w.auto.masks ∙ l.invariant.2,
-      rows_next a.transitions.now a.states a.letter l.p a.masks.now l.masks w.new.masks (omega arith) l.invariant.3 w.ensures,
+      l.invariant.0,
+      w.auto.masks ∙ l.invariant.1,
+      rows_next a.automaton.now.transitions a.automaton.now.states a.letter l.p a.masks.now l.masks w.new.masks (omega arith) l.invariant.2 w.ensures,
     )

@@ -11,18 +11,17 @@ use Rattle.step.specs.Masks.{mask, row_place}
 use Rattle.step.proofs.masks.fill_row.Goals as goal
 
 pub loop-r-init : goal.loop-r-init
-loop-r-init c = (search rules, refl, search rules, refl, sym (changed_none _ _ _))
+loop-r-init c = (refl, search rules, refl, sym (changed_none _ _ _))
 
 pub loop-r-preserved : goal.loop-r-preserved
 loop-r-preserved c = let l = c.loop-r in
     let a = c.args in
     let w = c.mask.result in
-    let y = c.transition_in.ensures in (
-      search rules,
+    let y = c.has_transition.ensures in (
       refl,
-      l.invariant.2,
-      length-set l.masks (row_place a.states a.letter a.p + l.r) w ∙ l.invariant.3,
-      ap (λ (m : List ℕ). set m (row_place a.states a.letter a.p + l.r) w) l.invariant.4
-          ∙ changed_more (row_place a.states a.letter a.p) l.r (λ k. mask (transition_in a.transitions.now a.p a.letter k)) a.masks.now w
+      l.invariant.1,
+      length-set l.masks (row_place a.automaton.now.states a.letter a.p + l.r) w ∙ l.invariant.2,
+      ap (λ (m : List ℕ). set m (row_place a.automaton.now.states a.letter a.p + l.r) w) l.invariant.3
+          ∙ changed_more (row_place a.automaton.now.states a.letter a.p) l.r (λ k. mask (transition_in a.automaton.now.transitions a.p a.letter k)) a.masks.now w
           (omega arith) (c.mask.ensures ∙ ap mask y),
     )
