@@ -22,7 +22,8 @@ use Rattle.slots.specs.Slots.{slot_size, max_slots, same_list}
 use Rattle.slots.specs.Bytes.{with_slot, vertex_at}
 use Rattle.slots.proofs.Vertices.{same_list_eq}
 use Rattle.slots.proofs.SlotLayout.{with_slot_vertex, with_slot_below}
-use Rattle.classes.specs.Classes.{counters_at, class_or, class_of, leads, listed_with, key_of, keys, top_leader, Classes, heads_after, nexts_after, listed_after}
+use Rattle.classes.specs.Classes.{counters_at, class_or, class_of, leads, listed_with, key_of, keys, top_leader, empty_index, Classes, index_after}
+use Rattle.classes.specs.declared.Index.{Index}
 use Rattle.classes.proofs.Leaders.{lists_equal, class_none, class_some, class_last}
 use Rattle.classes.proofs.ListedStates.{listed_absent}
 
@@ -53,7 +54,7 @@ get_or_zeros = zeros max_slots
     zeros (suc m) (suc s) = zeros m s
 
 -- the index of no slots
-pub classes_begin : (work : List ℕ) → Classes work (replicate keys 0) (replicate max_slots 0) (replicate max_slots 0) 0
+pub classes_begin : (work : List ℕ) → Classes work empty_index 0
 unfolding top_leader
 classes_begin work =
     record {
@@ -126,16 +127,16 @@ module _ (work work' : List ℕ) (n : ℕ) (v : Vertex) (same : (s : ℕ) → s 
   listed_below_slot s t l = rw (same_counters_at s l) (listed_next_slot (counters_at work s) t)
 
   -- what the index says of the slots below n
-  module _ (heads nexts listed : List ℕ) (I : Classes work heads nexts listed n) where
-    next_below : (x s : ℕ) → s < n → leads work' s ≡ true → get_or (set nexts n x) s 0 ≡ top_leader work' (key_of (counters_at work' s)) s
+  module _ (index : Index) (I : Classes work index n) where
+    next_below : (x s : ℕ) → s < n → leads work' s ≡ true → get_or (set index.nexts n x) s 0 ≡ top_leader work' (key_of (counters_at work' s)) s
     next_below x s l e =
-        get_or-set_other nexts n s x 0 (λ r. absurd (omega arith)) ∙ I.chained.next_is s l (sym (leads_same s l) ∙ e)
+        get_or-set_other index.nexts n s x 0 (λ r. absurd (omega arith)) ∙ I.chained.next_is s l (sym (leads_same s l) ∙ e)
         ∙ sym (top_same (key_of (counters_at work s)) s (omega arith))
         ∙ ap (λ (u : Vertex). top_leader work' (key_of u.counters) s) (sym (same s l))
 
-    class_below_slot : (x s : ℕ) → s < n → leads work' s ≡ false → get_or (set nexts n x) s 0 ≡ class_of work' (counters_at work' s) s
+    class_below_slot : (x s : ℕ) → s < n → leads work' s ≡ false → get_or (set index.nexts n x) s 0 ≡ class_of work' (counters_at work' s) s
     class_below_slot x s l e =
-        get_or-set_other nexts n s x 0 (λ r. absurd (omega arith)) ∙ I.joined.other_next s l (sym (leads_same s l) ∙ e)
+        get_or-set_other index.nexts n s x 0 (λ r. absurd (omega arith)) ∙ I.joined.other_next s l (sym (leads_same s l) ∙ e)
         ∙ sym (class_same (counters_at work s) s (omega arith))
         ∙ ap (λ (u : Vertex). class_of work' u.counters s) (sym (same s l))
 
@@ -144,27 +145,27 @@ module _ (work work' : List ℕ) (n : ℕ) (v : Vertex) (same : (s : ℕ) → s 
       led : leads work' n ≡ true
       led = leads_next_slot ∙ eq-eqb _ 0 first
 
-      head_led : (j : ℕ) → j < keys → get_or (set heads k (n + 1)) j 0 ≡ top_leader work' j (n + 1)
+      head_led : (j : ℕ) → j < keys → get_or (set index.heads k (n + 1)) j 0 ≡ top_leader work' j (n + 1)
       head_led j l = go (eqb (key_of v.counters) j) refl
         where
-          go : (b : Bool) → eqb (key_of v.counters) j ≡ b → get_or (set heads k (n + 1)) j 0 ≡ top_leader work' j (n + 1)
+          go : (b : Bool) → eqb (key_of v.counters) j ≡ b → get_or (set index.heads k (n + 1)) j 0 ≡ top_leader work' j (n + 1)
           go true q =
               let r : j ≡ k = sym (eqb-true (key_of v.counters) j q) ∙ sym key in
-              ap (λ (i : ℕ). get_or (set heads k (n + 1)) i 0) r
-              ∙ get_or-set_same heads k (n + 1) 0 (omega (arith, I.chained.heads_long)) ∙ add-one n
+              ap (λ (i : ℕ). get_or (set index.heads k (n + 1)) i 0) r
+              ∙ get_or-set_same index.heads k (n + 1) 0 (omega (arith, I.chained.heads_long)) ∙ add-one n
               ∙ sym (top_next_slot j true true led q)
           go false q =
-              get_or-set_other heads k j (n + 1) 0 (λ r. eqb-false (key_of v.counters) j q (sym key ∙ sym r)) ∙ I.chained.head_is j l
+              get_or-set_other index.heads k j (n + 1) 0 (λ r. eqb-false (key_of v.counters) j q (sym key ∙ sym r)) ∙ I.chained.head_is j l
               ∙ sym (top_next_slot j true false led q)
 
       next_led : (s : ℕ) → s < n + 1 → leads work' s ≡ true
-          → get_or (set nexts n (get_or heads k 0)) s 0 ≡ top_leader work' (key_of (counters_at work' s)) s
-      next_led s l e = ⊎_elim last (λ h. next_below (get_or heads k 0) s h e) (eq-or-lt_of_le {n = s} {m = n} (omega arith))
+          → get_or (set index.nexts n (get_or index.heads k 0)) s 0 ≡ top_leader work' (key_of (counters_at work' s)) s
+      next_led s l e = ⊎_elim last (λ h. next_below (get_or index.heads k 0) s h e) (eq-or-lt_of_le {n = s} {m = n} (omega arith))
         where
-          last : s ≡ n → get_or (set nexts n (get_or heads k 0)) s 0 ≡ top_leader work' (key_of (counters_at work' s)) s
+          last : s ≡ n → get_or (set index.nexts n (get_or index.heads k 0)) s 0 ≡ top_leader work' (key_of (counters_at work' s)) s
           last q =
               rw (q, own_counters, ← key)
-              (get_or-set_same nexts n (get_or heads k 0) 0 (omega (arith, I.chained.nexts_long)) ∙ I.chained.head_is k small
+              (get_or-set_same index.nexts n (get_or index.heads k 0) 0 (omega (arith, I.chained.nexts_long)) ∙ I.chained.head_is k small
               ∙ sym (top_same k n (omega arith)))
 
       other_counters : (s : ℕ) → s < n → same_list (counters_at work s) v.counters ≡ false
@@ -174,66 +175,66 @@ module _ (work work' : List ℕ) (n : ℕ) (v : Vertex) (same : (s : ℕ) → s 
           (class_none work v.counters n first s l))
 
       listed_led : (s : ℕ) → s < n + 1 → leads work' s ≡ true → (t : ℕ) → t < max_states
-          → bit (get_or (set listed n (with_bit 0 v.left)) s 0) t ≡ listed_with work' (counters_at work' s) (n + 1) t
+          → bit (get_or (set index.listed n (with_bit 0 v.left)) s 0) t ≡ listed_with work' (counters_at work' s) (n + 1) t
       listed_led s l e t h = ⊎_elim last below (eq-or-lt_of_le {n = s} {m = n} (omega arith))
         where
-          last : s ≡ n → bit (get_or (set listed n (with_bit 0 v.left)) s 0) t ≡ listed_with work' (counters_at work' s) (n + 1) t
+          last : s ≡ n → bit (get_or (set index.listed n (with_bit 0 v.left)) s 0) t ≡ listed_with work' (counters_at work' s) (n + 1) t
           last q =
               rw (q, own_counters)
-              (ap (λ (w : ℕ). bit w t) (get_or-set_same listed n (with_bit 0 v.left) 0 (omega (arith, I.joined.listed_long)))
+              (ap (λ (w : ℕ). bit w t) (get_or-set_same index.listed n (with_bit 0 v.left) 0 (omega (arith, I.joined.listed_long)))
               ∙ bit_with 0 v.left t
               ∙ ap₂ ◌||◌ (bit_zero t ∙ sym (listed_absent work v.counters n t (class_none work v.counters n first)))
               (sym (and_true (eqb v.left t)) ∙ ap (λ (b : Bool). eqb v.left t && b) (sym (lists_equal v.counters v.counters refl)))
               ∙ sym (listed_next_slot v.counters t))
 
-          below : s < n → bit (get_or (set listed n (with_bit 0 v.left)) s 0) t ≡ listed_with work' (counters_at work' s) (n + 1) t
+          below : s < n → bit (get_or (set index.listed n (with_bit 0 v.left)) s 0) t ≡ listed_with work' (counters_at work' s) (n + 1) t
           below g =
-              ap (λ (w : ℕ). bit w t) (get_or-set_other listed n s (with_bit 0 v.left) 0 (λ r. absurd (omega arith)))
+              ap (λ (w : ℕ). bit w t) (get_or-set_other index.listed n s (with_bit 0 v.left) 0 (λ r. absurd (omega arith)))
               ∙ I.joined.leader_listed s g (sym (leads_same s g) ∙ e) t h
               ∙ sym (listed_below_slot s t g
               ∙ ap (λ (b : Bool). listed_with work (counters_at work s) n t || (eqb v.left t && b)) (other_counters s g)
               ∙ ap (λ (b : Bool). listed_with work (counters_at work s) n t || b) (and_false (eqb v.left t))
               ∙ or_false (listed_with work (counters_at work s) n t))
 
-      classes_led : Classes work' (set heads k (n + 1)) (set nexts n (get_or heads k 0)) (set listed n (with_bit 0 v.left)) (n + 1)
+      classes_led : Classes work' (index_after index 0 v.left k n) (n + 1)
       classes_led =
           record {
             chained =
                 record {
-                  heads_long = length-set heads k (n + 1) ∙ I.chained.heads_long;
-                  nexts_long = length-set nexts n (get_or heads k 0) ∙ I.chained.nexts_long;
+                  heads_long = length-set index.heads k (n + 1) ∙ I.chained.heads_long;
+                  nexts_long = length-set index.nexts n (get_or index.heads k 0) ∙ I.chained.nexts_long;
                   head_is = head_led;
                   next_is = next_led;
                 };
             joined =
                 record {
-                  listed_long = length-set listed n (with_bit 0 v.left) ∙ I.joined.listed_long;
+                  listed_long = length-set index.listed n (with_bit 0 v.left) ∙ I.joined.listed_long;
                   leader_listed = listed_led;
                   other_listed = λ s l e.
                       ⊎_elim (λ q. clash led (rw q at e))
-                      (λ h. get_or-set_other listed n s (with_bit 0 v.left) 0 (λ r. absurd (omega arith))
+                      (λ h. get_or-set_other index.listed n s (with_bit 0 v.left) 0 (λ r. absurd (omega arith))
                       ∙ I.joined.other_listed s h (sym (leads_same s h) ∙ e))
                       (eq-or-lt_of_le {n = s} {m = n} (omega arith));
                   free_listed = λ s l.
-                      get_or-set_other listed n s (with_bit 0 v.left) 0 (λ r. absurd (omega arith)) ∙ I.joined.free_listed s (omega arith);
+                      get_or-set_other index.listed n s (with_bit 0 v.left) 0 (λ r. absurd (omega arith)) ∙ I.joined.free_listed s (omega arith);
                   other_next = λ s l e.
-                      ⊎_elim (λ q. clash led (rw q at e)) (λ h. class_below_slot (get_or heads k 0) s h e)
+                      ⊎_elim (λ q. clash led (rw q at e)) (λ h. class_below_slot (get_or index.heads k 0) s h e)
                       (eq-or-lt_of_le {n = s} {m = n} (omega arith));
                 };
           }
 
     -- the slot joins the class of slot d
-    module _ (d : ℕ) (room : n < max_slots) (again : class_of work v.counters n ≡ suc d) where
+    module _ (d k : ℕ) (room : n < max_slots) (again : class_of work v.counters n ≡ suc d) where
       follows : leads work' n ≡ false
       follows = leads_next_slot ∙ ne_eqb (class_of work v.counters n) 0 (λ z. absurd (omega arith))
 
-      head_joined : (j : ℕ) → j < keys → get_or heads j 0 ≡ top_leader work' j (n + 1)
+      head_joined : (j : ℕ) → j < keys → get_or index.heads j 0 ≡ top_leader work' j (n + 1)
       head_joined j l = I.chained.head_is j l ∙ sym (top_next_slot j false (eqb (key_of v.counters) j) follows refl)
 
-      next_joined : (s : ℕ) → s ≡ n → get_or (set nexts n (suc d)) s 0 ≡ class_of work' (counters_at work' s) s
+      next_joined : (s : ℕ) → s ≡ n → get_or (set index.nexts n (suc d)) s 0 ≡ class_of work' (counters_at work' s) s
       next_joined s q =
           rw (q, own_counters)
-          (get_or-set_same nexts n (suc d) 0 (omega (arith, I.chained.nexts_long)) ∙ sym (class_same v.counters n (omega arith) ∙ again))
+          (get_or-set_same index.nexts n (suc d) 0 (omega (arith, I.chained.nexts_long)) ∙ sym (class_same v.counters n (omega arith) ∙ again))
 
       -- of the leaders, slot d has the counters
       leader_same : (s : ℕ) → s < n → leads work s ≡ true → eqb d s ≡ same_list (counters_at work s) v.counters
@@ -247,27 +248,27 @@ module _ (work work' : List ℕ) (n : ℕ) (v : Vertex) (same : (s : ℕ) → s 
           is_true _ (eq-eqb d s (omega arith)))
 
       listed_joined : (s : ℕ) → s < n + 1 → leads work' s ≡ true → (t : ℕ) → t < max_states
-          → bit (get_or (set listed d (with_bit (get_or listed d 0) v.left)) s 0) t ≡ listed_with work' (counters_at work' s) (n + 1) t
+          → bit (get_or (set index.listed d (with_bit (get_or index.listed d 0) v.left)) s 0) t ≡ listed_with work' (counters_at work' s) (n + 1) t
       listed_joined s l e t h = ⊎_elim (λ q. clash (rw q at e) follows) below (eq-or-lt_of_le {n = s} {m = n} (omega arith))
         where
-          below : s < n → bit (get_or (set listed d (with_bit (get_or listed d 0) v.left)) s 0) t
+          below : s < n → bit (get_or (set index.listed d (with_bit (get_or index.listed d 0) v.left)) s 0) t
               ≡ listed_with work' (counters_at work' s) (n + 1) t
           below g =
               let m = (class_some work v.counters n d again).0 in
               let f : leads work s ≡ true = sym (leads_same s g) ∙ e in
-              bit_set listed d s v.left t (omega (arith, I.joined.listed_long))
+              bit_set index.listed d s v.left t (omega (arith, I.joined.listed_long))
               ∙ ap₂ ◌||◌ (I.joined.leader_listed s g f t h)
               (and_swap (eqb d s) (eqb v.left t) ∙ ap (λ (b : Bool). eqb v.left t && b) (leader_same s g f))
               ∙ sym (listed_below_slot s t g)
 
-      classes_joined : Classes work' heads (set nexts n (suc d)) (set listed d (with_bit (get_or listed d 0) v.left)) (n + 1)
+      classes_joined : Classes work' (index_after index (suc d) v.left k n) (n + 1)
       classes_joined =
           let m = class_some work v.counters n d again in
           record {
             chained =
                 record {
                   heads_long = I.chained.heads_long;
-                  nexts_long = length-set nexts n (suc d) ∙ I.chained.nexts_long;
+                  nexts_long = length-set index.nexts n (suc d) ∙ I.chained.nexts_long;
                   head_is = head_joined;
                   next_is = λ s l e.
                       ⊎_elim (λ q. clash (rw q at e) follows) (λ h. next_below (suc d) s h e)
@@ -275,21 +276,21 @@ module _ (work work' : List ℕ) (n : ℕ) (v : Vertex) (same : (s : ℕ) → s 
                 };
             joined =
                 record {
-                  listed_long = length-set listed d (with_bit (get_or listed d 0) v.left) ∙ I.joined.listed_long;
+                  listed_long = length-set index.listed d (with_bit (get_or index.listed d 0) v.left) ∙ I.joined.listed_long;
                   leader_listed = listed_joined;
                   other_listed = λ s l e.
                       ⊎_elim
                       (λ q.
-                      get_or-set_other listed d s (with_bit (get_or listed d 0) v.left) 0 (λ r. absurd (omega (arith, m.0)))
+                      get_or-set_other index.listed d s (with_bit (get_or index.listed d 0) v.left) 0 (λ r. absurd (omega (arith, m.0)))
                       ∙ I.joined.free_listed s (omega arith))
                       (λ h.
                       let f : leads work s ≡ false = sym (leads_same s h) ∙ e in
-                      get_or-set_other listed d s (with_bit (get_or listed d 0) v.left) 0
+                      get_or-set_other index.listed d s (with_bit (get_or index.listed d 0) v.left) 0
                       (λ r. clash {X = ⊥} m.2 (rw r at f))
                       ∙ I.joined.other_listed s h f)
                       (eq-or-lt_of_le {n = s} {m = n} (omega arith));
                   free_listed = λ s l.
-                      get_or-set_other listed d s (with_bit (get_or listed d 0) v.left) 0 (λ r. absurd (omega (arith, m.0)))
+                      get_or-set_other index.listed d s (with_bit (get_or index.listed d 0) v.left) 0 (λ r. absurd (omega (arith, m.0)))
                       ∙ I.joined.free_listed s (omega arith);
                   other_next = λ s l e.
                       ⊎_elim (next_joined s) (λ h. class_below_slot (suc d) s h e)
@@ -306,10 +307,10 @@ module _ (work : List ℕ) (n : ℕ) (v : Vertex) (a p : ℕ) (fits : n * slot_s
   own_slot : vertex_at (with_slot work n v a p) n ≡ v
   own_slot = with_slot_vertex work n v a p fits long
 
-  pub classes_append : (heads nexts listed : List ℕ) (k c : ℕ) → Classes work heads nexts listed n → k ≡ key_of v.counters → k < keys
+  pub classes_append : (index : Index) (k c : ℕ) → Classes work index n → k ≡ key_of v.counters → k < keys
       → n < max_slots → c ≡ class_of work v.counters n
-      → Classes (with_slot work n v a p) (heads_after heads c k n) (nexts_after heads nexts c k n) (listed_after listed c v.left n) (n + 1)
-  classes_append heads nexts listed k zero I key small room e =
-      classes_led work (with_slot work n v a p) n v below_slot own_slot heads nexts listed I k key small room (sym e)
-  classes_append heads nexts listed k (suc d) I key small room e =
-      classes_joined work (with_slot work n v a p) n v below_slot own_slot heads nexts listed I d room (sym e)
+      → Classes (with_slot work n v a p) (index_after index c v.left k n) (n + 1)
+  classes_append index k zero I key small room e =
+      classes_led work (with_slot work n v a p) n v below_slot own_slot index I k key small room (sym e)
+  classes_append index k (suc d) I key small room e =
+      classes_joined work (with_slot work n v a p) n v below_slot own_slot index I d k room (sym e)

@@ -22,6 +22,7 @@ use Rattle.slots.specs.Slots.{same_list, same_vertex}
 use Rattle.slots.specs.Bytes.{vertex_at}
 use Rattle.slots.proofs.Vertices.{same_list_eq}
 use Rattle.classes.specs.Classes.{counters_at, class_of, leads, listed_with, Joined, class_at, listed_in}
+use Rattle.classes.specs.declared.Index.{Index}
 use Rattle.classes.proofs.Leaders.{lists_equal, class_none, class_some, class_last, class_later, class_below}
 
 -- Words.
@@ -52,17 +53,17 @@ bit_without w v j = bit_of_xor w (bit_and w v) j ∙ ap (other (bit w j)) (bit_o
     go true false = refl
     go false y = refl
 
-pub none_unlisted : (listed : List ℕ) (c w t : ℕ) → c ≡ 0 → bit w t ≡ (bit w t && not (bit (listed_in listed c) t))
-none_unlisted listed c w t e = rw e (rw (bit_zero t) (sym (and_true (bit w t))))
+pub none_unlisted : (index : Index) (c w t : ℕ) → c ≡ 0 → bit w t ≡ (bit w t && not (bit (listed_in index c) t))
+none_unlisted index c w t e = rw e (rw (bit_zero t) (sym (and_true (bit w t))))
   where
     and_true : (x : Bool) → (x && true) ≡ x
     and_true true = refl
     and_true false = refl
 
-pub some_unlisted : (listed : List ℕ) (c w t : ℕ) → (c ≡ 0 → ⊥)
-    → bit (bit_xor w (bit_and w (get_or listed (c - 1) 0))) t ≡ (bit w t && not (bit (listed_in listed c) t))
-some_unlisted listed zero w t h = absurd (h refl)
-some_unlisted listed (suc s) w t h = let q : suc s - 1 ≡ s = omega arith in rw q (bit_without w (get_or listed s 0) t)
+pub some_unlisted : (index : Index) (c w t : ℕ) → (c ≡ 0 → ⊥)
+    → bit (bit_xor w (bit_and w (get_or index.listed (c - 1) 0))) t ≡ (bit w t && not (bit (listed_in index c) t))
+some_unlisted index zero w t h = absurd (h refl)
+some_unlisted index (suc s) w t h = let q : suc s - 1 ≡ s = omega arith in rw q (bit_without w (get_or index.listed s 0) t)
 
 -- The left states that are listed with counters.
 
@@ -109,29 +110,29 @@ module _ (work : List ℕ) (v : Vertex) (n : ℕ) where
 
 -- What the index says.
 
-module _ (work nexts listed : List ℕ) (n : ℕ) (J : Joined work nexts listed n) where
-  pub class_listed : (cs : List ℕ) (c t : ℕ) → c ≡ class_of work cs n → t < max_states → bit (listed_in listed c) t ≡ listed_with work cs n t
+module _ (work : List ℕ) (index : Index) (n : ℕ) (J : Joined work index n) where
+  pub class_listed : (cs : List ℕ) (c t : ℕ) → c ≡ class_of work cs n → t < max_states → bit (listed_in index c) t ≡ listed_with work cs n t
   class_listed cs zero t e l = bit_zero t ∙ sym (listed_absent work cs n t (class_none work cs n (sym e)))
   class_listed cs (suc s) t e l =
       let d = class_some work cs n s (sym e) in
       J.leader_listed s d.0 d.2 t l ∙ ap (λ (x : List ℕ). listed_with work x n t) d.1
 
   -- a leader's word has its own left state
-  leader_word : (s : ℕ) → s < n → (vertex_at work s).left < max_states → leads work s ≡ true → get_or listed s 0 ≡ 0 → ⊥
+  leader_word : (s : ℕ) → s < n → (vertex_at work s).left < max_states → leads work s ≡ true → get_or index.listed s 0 ≡ 0 → ⊥
   leader_word s l h e z =
       let b = J.leader_listed s l e (vertex_at work s).left h ∙ listed_at work (counters_at work s) n (vertex_at work s).left s l refl refl in
       clash {X = ⊥} b (ap (λ (w : ℕ). bit w (vertex_at work s).left) z ∙ bit_zero (vertex_at work s).left)
 
   pub class_at_lem : ((s : ℕ) → s < n → (vertex_at work s).left < max_states) → (s : ℕ) → s < n
-      → class_at nexts listed s ≡ class_of work (counters_at work s) n
+      → class_at index s ≡ class_of work (counters_at work s) n
   class_at_lem lefts s l = go (leads work s) refl
     where
-      go : (b : Bool) → leads work s ≡ b → class_at nexts listed s ≡ class_of work (counters_at work s) n
+      go : (b : Bool) → leads work s ≡ b → class_at index s ≡ class_of work (counters_at work s) n
       go true e =
-          ap (λ (c : Bool). cond c (get_or nexts s 0) (s + 1)) (ne_eqb (get_or listed s 0) 0 (leader_word s l (lefts s l) e))
+          ap (λ (c : Bool). cond c (get_or index.nexts s 0) (s + 1)) (ne_eqb (get_or index.listed s 0) 0 (leader_word s l (lefts s l) e))
           ∙ add-one s ∙ sym (class_last work (counters_at work s) n s l refl e)
       go false e =
-          ap (λ (c : Bool). cond c (get_or nexts s 0) (s + 1)) (eq-eqb (get_or listed s 0) 0 (J.other_listed s l e))
+          ap (λ (c : Bool). cond c (get_or index.nexts s 0) (s + 1)) (eq-eqb (get_or index.listed s 0) 0 (J.other_listed s l e))
           ∙ J.other_next s l e ∙ later (class_of work (counters_at work s) s) refl (class_below work s e)
         where
           later : (c : ℕ) → class_of work (counters_at work s) s ≡ c → 0 < c → c ≡ class_of work (counters_at work s) n

@@ -16,21 +16,21 @@ use Rattle.classes.proofs.same_counters.Goals as goal
 
 pub loop-r-init : goal.loop-r-init
 unfolding every
-loop-r-init c = (refl, search rules, search rules, refl)
+loop-r-init c = refl
 
 pub loop-r-preserved : goal.loop-r-preserved
-loop-r-preserved c = let l = c.loop-r in
-    (refl, search rules, l.invariant.2, every_more _ l.r _ l.invariant.3)
+loop-r-preserved c = every_more _ c.loop-r.r _ c.loop-r.invariant
 
 pub returns : goal.returns
-returns c = let a = c.args in
+returns c =
+    let a = c.args in
     let l = c.loop-r in
     let w = a.work.now in
     let f = slot_fits a.s (length w) c.requires in
-    let e : l.r ≡ 32 = omega arith in
-    l.invariant.3
+    let long : length a.counters ≡ 32 = search rules in
+    l.invariant
     ∙ every_is (λ k. eqb (get_or a.counters k 0) (get_or w (a.s * slot_size + 1 + k) 0)) l.r _
     (λ h.
-    lists_same a.counters (counters_at w a.s) (l.invariant.2 ∙ sym (counters_long w a.s f))
+    lists_same a.counters (counters_at w a.s) (long ∙ sym (counters_long w a.s f))
     (λ k i. eqb→eq _ _ (h k (omega arith)) ∙ sym (counters_at_lem w a.s f k (omega arith))))
     (λ k i d. lists_differ a.counters (counters_at w a.s) k (λ q. eqb-false _ _ d (q ∙ counters_at_lem w a.s f k (omega arith))))

@@ -1,7 +1,7 @@
--- `classes::class_of` meets its contract. Along the chain of the counters' key, the class lies at or below the slot where the walk stands,
+-- `classes::Index::class_of` meets its contract. Along the chain of the counters' key, the class lies at or below the slot where the walk stands,
 -- and that slot's number falls. Assumes nothing.
 use Rattle.classes.proofs.Leaders.{OnChain}
-use Rattle.classes.proofs.class_of.Given as goal
+use Rattle.classes.proofs.Index.class_of.Given as goal
 
 abbrev pub invariant-loop-c : goal.invariant-loop-c
 invariant-loop-c l = OnChain l.work l.counters l.n l.key l.c
