@@ -15,6 +15,7 @@ use lib.Arith.{lt_of_le-ne}
 use lib.Pow.{high, shr-shr}
 use lib.Seq.{get_or-set_same, get_or-set_other, get_or-append-add, get_or-take, get_or-drop, ext_get_or}
 use borrow.Author.Tests.{ltb-true, ltb-false, lt-ltb, le-ltb, eq-eqb, ne_eqb, eqb-true, eqb-false}
+use Rattle.std.specs.Int.{w32, from_le_bytes}
 use Rattle.automaton.specs.Ranges.{some, table}
 use Rattle.automaton.specs.Sets.{bit, with_bit, member}
 use Rattle.relations.specs.Closure.{related, relation, through, rounds, closure, row_has}
@@ -163,7 +164,7 @@ byte_more b w bs h e q = go (ltb q 8) refl
             ap (bit (w * 256 + b)) g ∙ bit_high 8 w b p h ∙ e p ∙ sym (ap₂ (λ (k i : ℕ). bit (get_or (b ∷ bs) k 0) i) later same)
 
 -- four bytes as one word
-pub bytes_word : (b0 b1 b2 b3 : ℕ) → b0 < 256 → b1 < 256 → b2 < 256 → b3 < 256 → (q : ℕ)
+bytes_word : (b0 b1 b2 b3 : ℕ) → b0 < 256 → b1 < 256 → b2 < 256 → b3 < 256 → (q : ℕ)
     → bit (((b3 * 256 + b2) * 256 + b1) * 256 + b0) q ≡ member (b0 ∷ b1 ∷ b2 ∷ b3 ∷ []) q
 bytes_word b0 b1 b2 b3 h0 h1 h2 h3 =
     byte_more b0 _ (b1 ∷ b2 ∷ b3 ∷ []) h0 (byte_more b1 _ (b2 ∷ b3 ∷ []) h1 (byte_more b2 b3 (b3 ∷ []) h2
@@ -183,6 +184,13 @@ four_bytes t i (suc zero) h = refl
 four_bytes t i (suc (suc zero)) h = refl
 four_bytes t i (suc (suc (suc zero))) h = refl
 four_bytes t i (suc (suc (suc (suc k)))) h = absurd (omega arith)
+
+pub bytes_set : (bs : List ℕ) → get_or bs 0 0 < 256 → get_or bs 1 0 < 256 → get_or bs 2 0 < 256 → get_or bs 3 0 < 256
+    → (q : ℕ) → q < 32 → bit (from_le_bytes w32 bs) q ≡ member bs q
+bytes_set bs h0 h1 h2 h3 q l =
+    ap (λ (w : ℕ). bit w q) (omega arith)
+    ∙ bytes_word (get_or bs 0 0) (get_or bs 1 0) (get_or bs 2 0) (get_or bs 3 0) h0 h1 h2 h3 q
+    ∙ ap (λ (w : ℕ). bit w (q % 8)) (four_bytes bs 0 (q / 8) (omega arith) ∙ ap (λ (k : ℕ). get_or bs k 0) (zero-add (q / 8)))
 
 -- States collected one after another.
 
@@ -386,12 +394,12 @@ module _ (i n : ℕ) (f : ℕ → ℕ) (rows : List ℕ) where
           ∙ ap f own
 
 -- the first n rows, rewritten one after another
-pub first_rows_changed : (n : ℕ) (f : ℕ → ℕ) (rows rows' : List ℕ) → n ≤ length rows → length rows' ≡ length rows
-    → Rewritten (λ i w. w ≡ f i) rows n rows' → rows' ≡ changed_rows 0 n f rows
-first_rows_changed n f rows rows' l e r =
+pub first_rows_changed : (n p : ℕ) (f : ℕ → ℕ) (rows rows' : List ℕ) → p ≡ n → n ≤ length rows → length rows' ≡ length rows
+    → Rewritten (λ i w. w ≡ f i) rows p rows' → rows' ≡ changed_rows 0 n f rows
+first_rows_changed n p f rows rows' d l e r =
     rows_changed 0 n f rows (omega arith) rows' e
     record { before = λ j h. absurd (omega arith); after = λ j h. r.rest j (omega arith) }
-    (λ j h. ap (λ (k : ℕ). get_or rows' k 0) (zero-add j) ∙ r.done j h)
+    (λ j h. ap (λ (k : ℕ). get_or rows' k 0) (zero-add j) ∙ r.done j (omega arith))
 
 first_row : (n : ℕ) (f : ℕ → ℕ) (rows : List ℕ) (p : ℕ) → n ≤ length rows → p < n → get_or (changed_rows 0 n f rows) p 0 ≡ f p
 first_row n f rows p l h =

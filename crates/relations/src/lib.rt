@@ -2,7 +2,7 @@
 // is one on every bit of a word.
 #![tactic(auto)]
 
-ghost use Rattle.std.specs.Prelude.{◌≡◌, ◌&&◌, ◌||◌, [], ◌∷◌, ℕ, ◌%◌, ◌^◌, ◌<◌, ◌≤◌, eqb, length};
+ghost use Rattle.std.specs.Prelude.{◌≡◌, ◌&&◌, ◌||◌, ℕ, ◌%◌, ◌^◌, ◌<◌, ◌≤◌, eqb, length};
 ghost use Rattle.automaton.specs.Ranges.{some, total};
 ghost use Rattle.automaton.specs.Sets.{bit, with_bit, member};
 ghost use Rattle.automaton.specs.Automata.{one, transition_bit};
@@ -28,7 +28,7 @@ pub fn with_state(set: u32, q: usize) -> u32
     requires { q < 32 }
     ensures { result ≡ with_bit set q }
 {
-    set | (1u32 << q)
+    set | 1 << q
 }
 
 // The set, with state q besides where the test says so.
@@ -39,18 +39,11 @@ pub fn with_state_where(set: u32, q: usize, test: bool) -> u32
     if test { with_state(set, q) } else { set }
 }
 
-// Four bytes, eight states each, as one set.
-fn joined(b0: u8, b1: u8, b2: u8, b3: u8) -> u32
-    ensures { (q : ℕ) → bit result q ≡ member (b0 ∷ b1 ∷ b2 ∷ b3 ∷ []) q }
-{
-    ((b3 as u32 * 256 + b2 as u32) * 256 + b1 as u32) * 256 + b0 as u32
-}
-
 // The set that is held eight states to a byte.
 pub fn of_bytes(set: &[u8; 4]) -> u32
     ensures { (q : ℕ) → q < 32 → bit result q ≡ member set.now q }
 {
-    joined(set[0], set[1], set[2], set[3])
+    u32::from_le_bytes(*set)
 }
 
 // The targets of q on letter a.
@@ -59,12 +52,8 @@ pub fn row(automaton: &Automaton, q: usize, a: usize) -> u32
     ensures { (r : ℕ) → r < 32 → bit result r ≡ transition_bit automaton.now q a r }
 {
     let at = (q * MAX_LETTERS + a) * 4;
-    joined(
-        automaton.transitions[at],
-        automaton.transitions[at + 1],
-        automaton.transitions[at + 2],
-        automaton.transitions[at + 3],
-    )
+    let bytes = &automaton.transitions;
+    u32::from_le_bytes([bytes[at], bytes[at + 1], bytes[at + 2], bytes[at + 3]])
 }
 
 // The states of the set below n, as a set.
@@ -111,10 +100,8 @@ pub fn spread(rows: &[u32], set: u32, n: usize) -> u32
     ensures { (q : ℕ) → bit result q ≡ some (λ p. bit set p && row_has rows.now p q) n 0 }
 {
     let mut found: u32 = 0;
-    let mut p: usize = 0;
-    while p < n {
+    for p in 0..n {
         found = with_row(found, set, p, rows[p]);
-        p += 1;
     }
     found
 }
@@ -124,10 +111,8 @@ pub fn add_diagonal(rows: &mut [u32], n: usize)
     requires { (n ≤ 32) × (n ≤ length rows.old) }
     ensures { rows.new ≡ diagonal_rows n rows.old }
 {
-    let mut p: usize = 0;
-    while p < n {
+    for p in 0..n {
         rows[p] = with_state(rows[p], p);
-        p += 1;
     }
 }
 
@@ -136,10 +121,8 @@ fn round(rows: &mut [u32], k: usize, n: usize)
     requires { (k < n) × (n ≤ 32) × (n ≤ length rows.old) }
     ensures { rows.new ≡ round_rows n k rows.old }
 {
-    let mut p: usize = 0;
-    while p < n {
+    for p in 0..n {
         rows[p] = with_row(rows[p], rows[p], k, rows[k]);
-        p += 1;
     }
 }
 
@@ -148,9 +131,7 @@ pub fn close(rows: &mut [u32], n: usize)
     requires { (n ≤ 32) × (n ≤ length rows.old) }
     ensures { rows.new ≡ closed_rows n rows.old }
 {
-    let mut k: usize = 0;
-    while k < n {
+    for k in 0..n {
         round(rows, k, n);
-        k += 1;
     }
 }
