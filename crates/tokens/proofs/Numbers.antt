@@ -1,25 +1,18 @@
 -- Numbers of any length, held as 1,000 at most: a larger value stays at 1,000 whatever digits follow. Assumes nothing.
-use mathlib.Core.Path.{◌≡◌, refl, sym, ap, ap₂, subst, ◌∙◌}
-use mathlib.Core.Bool.{Bool, true, false, ◌&&◌}
+use mathlib.Core.Path.{◌≡◌, refl, sym, ap, ap₂, ◌∙◌}
+use mathlib.Core.Bool.{Bool, true, false}
 use mathlib.Core.List.{List, [], ◌∷◌}
-use Prim.Native.Nat.{ℕ, zero, suc, ◌+◌, ◌-◌, ◌*◌, ◌≤◌, ◌<◌, min}
-use native.Mathlib.Nat.{add-zero}
+use Prim.Native.Nat.{ℕ, suc, ◌+◌, ◌-◌, ◌*◌, ◌≤◌, ◌<◌, min}
 use native.Mathlib.Omega.{arith}
-use lib.Dec.{eqb, leb}
+use lib.Dec.{ltb}
 use lib.ListN.{length, get_or, drop, drop_of_length-le}
 use lib.Seq.{drop-cons}
-use borrow.Author.Tests.{leb-true}
+use borrow.Author.Tests.{ltb-true, ltb-false}
+use Rattle.tokens.proofs.Runs.{digits_here}
+use Rattle.std.specs.Prelude.{Some}
 use Rattle.tokens.specs.declared.Numeral.{Numeral}
-use Rattle.tokens.specs.declared.Numeral.TheVariants.{Value}
 use Rattle.tokens.specs.Tokens.{digits_at, digit, digits, value}
 use Rattle.tokens.specs.Places.{capped}
-
-pub digit_low : (b : ℕ) → digit b ≡ true → 0x30 ≤ b
-digit_low b e = leb-true 0x30 b (first (leb 0x30 b) (leb b 0x39) e)
-  where
-    first : (x y : Bool) → (x && y) ≡ true → x ≡ true
-    first true y h = refl
-    first false y h = h
 
 pub cap_value : (t : List ℕ) (v : ℕ) → min (value v t) 1000 ≡ min (value (min v 1000) t) 1000
 unfolding value
@@ -43,25 +36,25 @@ module _ (s : List ℕ) (j : ℕ) where
       ∙ ap (λ (c : Bool). elim c [ true ↦ value (10 * v + (get_or s j 0 - 0x30)) (drop (suc j) s) | false ↦ v ]) e
       ∙ ap (λ (n : ℕ). value (10 * v + (get_or s j 0 - 0x30)) (drop n s)) d
 
-  pub value_stop : (v : ℕ) → j < length s → digit (get_or s j 0) ≡ false → value v (drop j s) ≡ v
+  pub value_stop : (v : ℕ) → digit (get_or s j 0) ≡ false → value v (drop j s) ≡ v
   unfolding value
-  value_stop v h e =
-      ap (value v) (drop-cons s j 0 h) ∙ ap (λ (c : Bool). elim c [ true ↦ value (10 * v + (get_or s j 0 - 0x30)) (drop (suc j) s) | false ↦ v ]) e
+  value_stop v e = by (ltb j (length s)) refl
+    where
+      by : (b : Bool) → ltb j (length s) ≡ b → value v (drop j s) ≡ v
+      by true h =
+          ap (value v) (drop-cons s j 0 (ltb-true j (length s) h))
+          ∙ ap (λ (c : Bool). elim c [ true ↦ value (10 * v + (get_or s j 0 - 0x30)) (drop (suc j) s) | false ↦ v ]) e
+      by false h = ap (value v) (drop_of_length-le s (ltb-false j (length s) h))
 
-  pub value_end : (v : ℕ) → length s ≤ j → value v (drop j s) ≡ v
-  unfolding value
-  value_end v h = ap (value v) (drop_of_length-le s h)
-
--- the loop over the digits: it ends with the whole value, or goes on with one digit more
-pub digits_ended : (s : List ℕ) (i v j : ℕ) → min (value 0 (drop i s)) 1000 ≡ min (value v (drop j s)) 1000
-    → i + digits (drop i s) ≡ j + digits (drop j s) → v ≤ 1000 → value v (drop j s) ≡ v → j + digits (drop j s) ≡ j → Value v j ≡ capped (digits_at s i)
-digits_ended s i v j a b h x y =
-    let e : min (value 0 (drop i s)) 1000 ≡ v = a ∙ ap (λ (w : ℕ). min w 1000) x ∙ small v h in
-    let d : i + digits (drop i s) ≡ j = b ∙ y in
-    sym (ap₂ (λ (n m : ℕ). Value n m) e d)
-  where
-    small : (w : ℕ) → w ≤ 1000 → min w 1000 ≡ w
-    small w l = omega arith
+-- the loop over the digits: it ends with the whole number, or goes on with one digit more
+pub digits_ended : (s : List ℕ) (i : ℕ) (n : Numeral) → min (value 0 (drop i s)) 1000 ≡ min (value n.value (drop n.behind s)) 1000
+    → i + digits (drop i s) ≡ n.behind + digits (drop n.behind s) → n.value ≤ 1000 → digit (get_or s n.behind 0) ≡ false
+    → Some n ≡ capped (digits_at s i)
+digits_ended s i n a b h e =
+    let x = value_stop s n.behind n.value e in
+    let y = digits_here s n.behind e in
+    let held : ℕ → ℕ → Numeral = λ v j. record { value = v; behind = j } in
+    ap Some (ap₂ held (omega (arith, a, x)) (omega (arith, b, y)))
 
 pub digit_taken : (s : List ℕ) (i v j w : ℕ) → min (value 0 (drop i s)) 1000 ≡ min (value v (drop j s)) 1000 → j < length s
     → digit (get_or s j 0) ≡ true → w ≡ min (10 * v + (get_or s j 0 - 0x30)) 1000

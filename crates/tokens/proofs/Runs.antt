@@ -1,7 +1,7 @@
 -- Runs of bytes of one kind, as many as there are: where they end, and one byte after the other, as the code's loops go through them. The white space, the
 -- digits and the name that stand at a place are such runs. Assumes nothing.
 use mathlib.Core.Path.{◌≡◌, refl, sym, ap, subst, ◌∙◌}
-use mathlib.Core.Bool.{Bool, true, false}
+use mathlib.Core.Bool.{Bool, true, false, cond}
 use mathlib.Core.Logic.{◌↔◌}
 use mathlib.Core.List.{List, [], ◌∷◌}
 use Prim.Native.Nat.{ℕ, zero, suc, ◌+◌, ◌≤◌, ◌<◌}
@@ -11,6 +11,8 @@ use native.Mathlib.Omega.{arith}
 use lib.Dec.{ltb}
 use lib.ListN.{length, get_or, drop, drop_of_length-le}
 use lib.Seq.{drop-cons}
+use Rattle.std.specs.List.{prefix_len}
+use Rattle.std.proofs.lemmas.List.Recursion.{same_from_clauses}
 use borrow.Author.Tests.{ltb-true, ltb-false}
 use Rattle.automaton.proofs.Booleans.{clash}
 use Rattle.tokens.specs.Tokens.{white, whites, skip, digit, digits, name_byte, name_bytes}
@@ -84,6 +86,22 @@ name_run s i j =
     run_iff (λ b. name_byte b) name_bytes refl (λ b t e. ap (λ (x : Bool). elim x [ true ↦ suc (name_bytes t) | false ↦ 0 ]) e)
     (λ b t e. ap (λ (x : Bool). elim x [ true ↦ suc (name_bytes t) | false ↦ 0 ]) e) refl s i j
 
+-- The library's count of the bytes in front.
+
+counted : (b : Bool) (n : ℕ) → elim b [ true ↦ suc n | false ↦ 0 ] ≡ cond b (1 + n) 0
+counted true n = omega arith
+counted false n = refl
+
+pub whites_lem : (s : List ℕ) → prefix_len (λ b. white b) s ≡ whites s
+unfolding whites
+whites_lem = same_from_clauses (prefix_len (λ b. white b)) whites (λ b n. cond (white b) (1 + n) 0) refl (λ _ _. refl) (λ b t. counted (white b) (whites t))
+
+pub name_bytes_lem : (s : List ℕ) → prefix_len (λ b. name_byte b) s ≡ name_bytes s
+unfolding name_bytes
+name_bytes_lem =
+    same_from_clauses (prefix_len (λ b. name_byte b)) name_bytes (λ b n. cond (name_byte b) (1 + n) 0) refl (λ _ _. refl)
+    (λ b t. counted (name_byte b) (name_bytes t))
+
 -- One byte after the other.
 
 pub skip_here : (s : List ℕ) (i : ℕ) → white (get_or s i 0) ≡ false → skip s i ≡ i
@@ -91,9 +109,6 @@ skip_here s i e = sym ((white_run s i i).0 (run_ends e refl))
 
 pub skip_end : (s : List ℕ) (i : ℕ) → length s ≤ i → skip s i ≡ i
 skip_end s i h = skip_here s i (ap (λ (b : ℕ). white b) (byte_past s i h))
-
-pub skip_white : (s : List ℕ) (i : ℕ) → white (get_or s i 0) ≡ true → skip s i ≡ skip s (i + 1)
-skip_white s i e = sym ((white_run s i (skip s (i + 1))).0 (run_on e ((white_run s (i + 1) (skip s (i + 1))).1 refl)))
 
 pub skip_from : (s : List ℕ) (i : ℕ) → i ≤ skip s i
 unfolding skip
@@ -110,19 +125,6 @@ skip_stops s i = run_stops ((white_run s i (skip s i)).1 refl)
 pub digits_here : (s : List ℕ) (i : ℕ) → digit (get_or s i 0) ≡ false → i + digits (drop i s) ≡ i
 digits_here s i e = sym ((digit_run s i i).0 (run_ends e refl))
 
-pub digits_end : (s : List ℕ) (i : ℕ) → length s ≤ i → i + digits (drop i s) ≡ i
-digits_end s i h = digits_here s i (ap (λ (b : ℕ). digit b) (byte_past s i h))
-
 pub digits_on : (s : List ℕ) (i : ℕ) → digit (get_or s i 0) ≡ true → i + digits (drop i s) ≡ i + 1 + digits (drop (i + 1) s)
 digits_on s i e =
     sym ((digit_run s i (i + 1 + digits (drop (i + 1) s))).0 (run_on e ((digit_run s (i + 1) (i + 1 + digits (drop (i + 1) s))).1 refl)))
-
-pub name_here : (s : List ℕ) (i : ℕ) → name_byte (get_or s i 0) ≡ false → i + name_bytes (drop i s) ≡ i
-name_here s i e = sym ((name_run s i i).0 (run_ends e refl))
-
-pub name_on : (s : List ℕ) (i : ℕ) → name_byte (get_or s i 0) ≡ true → i + name_bytes (drop i s) ≡ i + 1 + name_bytes (drop (i + 1) s)
-name_on s i e =
-    sym ((name_run s i (i + 1 + name_bytes (drop (i + 1) s))).0 (run_on e ((name_run s (i + 1) (i + 1 + name_bytes (drop (i + 1) s))).1 refl)))
-
-pub name_end_lem : (s : List ℕ) (i : ℕ) → length s ≤ i → i + name_bytes (drop i s) ≡ i
-name_end_lem s i h = name_here s i (ap (λ (b : ℕ). name_byte b) (byte_past s i h))

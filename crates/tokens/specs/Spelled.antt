@@ -3,7 +3,7 @@
 -- Assumes nothing.
 use mathlib.Core.List as list
 use Rattle.std.specs.Prelude.{List, ℕ}
-use Prim.Native.Char.{Char, code}
+use Prim.Native.Char.{code}
 use Prim.Native.String.{String, [], ◌∷◌}
 
 abbrev pub spelled : String → List ℕ

@@ -1,29 +1,21 @@
--- `name_end` meets its contract: what stands from the start up to the present place are bytes of a name. Assumes nothing.
-use mathlib.Core.Path.{◌≡◌, refl, sym, ◌∙◌}
-use Prim.Native.Nat.{◌≤◌, ◌+◌, ◌-◌}
-use native.Mathlib.Omega.{arith}
-use borrow.Author.Rules.{rules}
-use borrow.Author.Tests.{not-true, not-false}
-use lib.ListN.{length, drop}
-use Rattle.tokens.specs.Tokens.{name_bytes}
-use Rattle.tokens.proofs.Runs.{name_here, name_on, name_end_lem}
+-- `name_end` meets its contract: the bytes that it passes are those of the name. Assumes nothing.
+use Rattle.std.proofs.Common.{◌+◌, ◌∙◌, ap, drop, arith, rules}
+use lib.ListN.{length-drop}
+use Rattle.std.proofs.lemmas.List.{take_rest}
+use Rattle.std.proofs.lemmas.Iterator.{YieldsList-from_slice}
+use Rattle.std.proofs.lemmas.Iterator.Search.{YieldsList-from_take_while}
+use Rattle.std.proofs.lemmas.Iterator.Consumers.{count_from_yields_List}
+use Rattle.std.proofs.lemmas.List.Folds.{length-prefix_len}
+use Rattle.std.proofs.lemmas.List.Sums.{prefix_len-le-length}
+use Rattle.tokens.specs.Tokens.{name_byte}
+use Rattle.tokens.proofs.Runs.{name_bytes_lem}
 use Rattle.tokens.proofs.name_end.Goals as goal
 
-pub returns-then-not-is_name_byte : goal.returns-then-not-is_name_byte
-returns-then-not-is_name_byte c = let l = c in
-    let s = l.args.text.now in
-    let i = l.loop-j.invariant in
-    let w = c.is_name_byte.ensures in
-    (sym (i.0 ∙ name_here s l.loop-j.j (sym w ∙ c.if-not-is_name_byte.true)), i.1, i.2)
-
-pub loop-j-preserved : goal.loop-j-preserved
-loop-j-preserved c = let l = c in
-    let s = l.args.text.now in
-    let i = l.loop-j.invariant in
-    let w = c.is_name_byte.ensures in
-    (i.0 ∙ name_on s l.loop-j.j (sym w ∙ c.if-not-is_name_byte.false), omega arith, omega arith)
-
 pub returns : goal.returns
-returns c = let l = c in
-    let i = l.loop-j.invariant in
-    (sym (i.0 ∙ name_end_lem l.args.text.now l.loop-j.j c.loop-j-test.false), i.1, i.2)
+returns c =
+    let s = drop c.args.at c.args.text.now in
+    let n = count_from_yields_List c.take_while.result _ c.count.ensures.ran
+    (YieldsList-from_take_while _ (λ b. name_byte b) (YieldsList-from_slice s (cc (take_rest c.args.text.now c.args.at))) c.take_while.ensures.closure c.take_while.ensures.done
+    (λ x b q k. search rules)) ∙ length-prefix_len (λ b. name_byte b) s in
+    let small = prefix_len-le-length (λ b. name_byte b) s in
+    (ap (λ k. c.args.at + k) (n ∙ name_bytes_lem s), omega arith, omega (arith, n, length-drop c.args.at c.args.text.now))
