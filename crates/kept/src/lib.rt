@@ -2,8 +2,7 @@
 // targets that accept and those that do not. There are 16 lines of 32 places; a class has the line of its number modulo 16.
 #![tactic(auto)]
 
-ghost use Rattle.std.specs.Prelude.{◌≡◌, ◌+◌, ◌*◌, ◌%◌, ◌<◌, ◌≤◌, length, set};
-ghost use Rattle.relations.specs.Rows.{changed_rows};
+ghost use Rattle.std.specs.Prelude.{◌≡◌, ◌*◌, ◌%◌, ◌<◌, replicate, set};
 ghost use Rattle.kept.specs.Kept.{lines, line_length, kept_after};
 
 // The lines.
@@ -12,30 +11,41 @@ pub const LINES: usize = 16;
 // The places of a line: two for each letter.
 pub const LINE_LENGTH: usize = 32;
 
-// Clears the line from place `at` on.
-fn clear(kept: &mut [u16], at: usize)
-    requires { at + line_length ≤ length kept.old }
-    ensures { kept.new ≡ changed_rows at line_length (λ i. 0) kept.old }
-{
-    let mut i: usize = 0;
-    while i < LINE_LENGTH {
-        kept[at + i] = 0;
-        i += 1;
-    }
+// The places of all lines.
+pub const PLACES: usize = LINES * LINE_LENGTH;
+
+// The class that has each line, 0 where none has it, and the places of the lines one after the other.
+#[derive(Drop)]
+pub struct Kept {
+    pub owners: [u16; LINES],
+    pub lines: [u16; PLACES],
 }
 
-// The place from which on the line of a class stands. A line that another class had is cleared first.
-pub fn line_of(owners: &mut [u16], kept: &mut [u16], class: usize) -> usize
-    requires { (length owners.old ≡ lines) × (length kept.old ≡ lines * line_length) × (class < 65536) }
-    ensures place { result ≡ class % lines * line_length }
-    ensures owners { owners.new ≡ set owners.old (class % lines) class }
-    ensures kept { kept.new ≡ kept_after owners.old kept.old class }
-{
-    let line = class % LINES;
-    let at = line * LINE_LENGTH;
-    if owners[line] as usize != class {
-        owners[line] = class as u16;
-        clear(kept, at);
+impl Kept {
+    // No line has a class, and nothing is kept.
+    pub fn new() -> Kept
+        ensures owners { result.owners ≡ replicate lines 0 }
+        ensures kept { result.lines ≡ replicate (lines * line_length) 0 }
+    {
+        Kept {
+            owners: [0; LINES],
+            lines: [0; PLACES],
+        }
     }
-    at
+
+    // The place from which on the line of a class stands. A line that another class had is cleared first.
+    pub fn line_of(&mut self, class: usize) -> usize
+        requires { class < 65536 }
+        ensures place { result ≡ class % lines * line_length }
+        ensures owners { self.new.owners ≡ set self.old.owners (class % lines) class }
+        ensures kept { self.new.lines ≡ kept_after self.old.owners self.old.lines class }
+    {
+        let line = class % LINES;
+        let at = line * LINE_LENGTH;
+        if self.owners[line] as usize != class {
+            self.owners[line] = class as u16;
+            self.lines[at..at + LINE_LENGTH].fill(0);
+        }
+        at
+    }
 }
