@@ -1,10 +1,11 @@
 -- Bytes that a cursor adds one after another are bytes that it adds at once, by the laws of `WrittenAt`. Assumes nothing.
-use mathlib.Core.Path.{◌≡◌, refl, sym, ap, ◌∙◌}
+use mathlib.Core.Path.{◌≡◌, refl, sym, ap, subst, ◌∙◌}
 use mathlib.Core.List.{List, [], ◌++◌, append_assoc}
 use Prim.Native.Nat.{ℕ}
 use native.Mathlib.Omega.{arith}
 use lib.ListN.{length}
 use Rattle.buffers.specs.declared.Cursor.{Cursor}
+use Rattle.buffers.specs.Buffers.{WrittenAt}
 use Rattle.buffers.specs.Cursors.{HasRoom, Added}
 use Rattle.buffers.proofs.Buffers.{written_nothing, written_append, written_as, written_keeps_length}
 
@@ -31,3 +32,8 @@ pub added_three : {c : Cursor} {l : List ℕ} {d : Cursor} (a b m : List ℕ) {e
     → Added c (l ++ a ++ b ++ m) e
 added_three {l = l} a b m u v =
     added_as (sym (append_assoc l (a ++ b) m) ∙ ap (λ (x : List ℕ). x ++ m) (sym (append_assoc l a b))) (added_append u v)
+
+-- what is written from the front of a buffer on stands at the front of the buffer
+pub added_front : {d : List ℕ} {c : Cursor} {l : List ℕ} {e : Cursor} → c.out.now ≡ d → c.at ≡ 0 → Added c l e → WrittenAt d 0 l e.out.now e.at
+added_front {d} {c} {l} {e} p q u =
+    subst (λ (x : List ℕ). WrittenAt x 0 l e.out.now e.at) p (subst (λ (k : ℕ). WrittenAt c.out.now k l e.out.now e.at) q u.written)
