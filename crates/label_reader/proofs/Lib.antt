@@ -1,3 +1,2 @@
 -- Laws of the label reader.
 pub mod ReadTruths
-pub mod CycleSteps

@@ -1,25 +1,62 @@
-// The label of a Hanoi edge, read from a place of the text: its truth on letters 0 to 15, a bit for each, and the place behind it. Disjunctions, conjunctions,
-// operands and parentheses call each other, and less of the text is left at each call.
+// The label of a Hanoi edge, read from a place of the text: its truth on letters 0 to 15, a bit for each, and the place behind it. Chains of operands, operands
+// and parentheses call each other, and less of the text is left at each call.
 #![tactic(auto)]
 
-ghost use Rattle.std.specs.Prelude.{◌≡◌, ℕ, ◌<◌, ◌≤◌, ◌+◌, length};
+ghost use Rattle.std.specs.Prelude.{◌≡◌, ◌≤◌, ◌+◌, length, IfSome};
 ghost use Rattle.labels.specs.Labels.{proposition_mask};
-ghost use Rattle.tokens.specs.Tokens.{number_at};
-ghost use Rattle.labels.specs.LabelReading.{proposition_of, atom_at, operand_at, conjunction, disjunction, closed, label_at};
-ghost use Rattle.label_reader.specs.Truths.{answer_of, closed_on, Forward};
+ghost use Rattle.labels.specs.LabelReading.{atom_at, operand_at, disjunction, closed, label_at};
+ghost use Rattle.tokens.specs.Places.{Past};
+ghost use Rattle.label_reader.specs.Truths.{answer_of, mark_of, joined_mask, part_of, chain_of};
 
-use tokens::{Numeral, byte_at, number_at, skip};
+use tokens::{byte_at, number_at, skip};
 
-// What stands at a place: no label, or its truth and the place behind it.
+// A label's truth, and the place behind it.
 #[derive(Clone, Copy)]
-pub enum Truth {
-    Bad,
-    On(usize, usize),
+pub struct Truth {
+    pub mask: u16,
+    pub behind: usize,
+}
+
+// What joins two labels.
+#[derive(Clone, Copy)]
+enum Operator {
+    And,
+    Or,
+}
+
+impl Operator {
+    // The byte that it is written as.
+    fn mark(self) -> u8
+        ensures { result ≡ mark_of self }
+    {
+        match self {
+            Operator::And => b'&',
+            Operator::Or => b'|',
+        }
+    }
+
+    // The letters of two labels that it joins.
+    fn join(self, first: u16, second: u16) -> u16
+        ensures { result ≡ joined_mask self first second }
+    {
+        match self {
+            Operator::And => first & second,
+            Operator::Or => first | second,
+        }
+    }
+}
+
+// A text with labels of so many propositions.
+#[derive(Clone, Copy)]
+struct Labels<'a> {
+    text: &'a [u8],
+    propositions: usize,
+    ghost few: { propositions ≤ 4 },
 }
 
 // The letters 0 to 15 that have bit p.
-fn proposition_mask(p: usize) -> usize
-    ensures { (result ≡ proposition_mask p) × (result < 65536) }
+fn proposition_mask(p: usize) -> u16
+    ensures { result ≡ proposition_mask p }
 {
     match p {
         0 => 0xAAAA,
@@ -29,142 +66,122 @@ fn proposition_mask(p: usize) -> usize
     }
 }
 
-// A proposition that there is.
-fn proposition_at(text: &[u8], at: usize, propositions: usize) -> Truth
-    requires { (at ≤ length text.now) × (propositions ≤ 4) }
-    ensures meaning { result ≡ answer_of (proposition_of propositions (number_at text.now at)) }
-    ensures forward { Forward text.now at result }
-{
-    let Numeral::Value(p, next) = number_at(text, at) else {
-        return Truth::Bad;
-    };
-    if p < propositions {
-        return Truth::On(proposition_mask(p), next);
-    }
-    Truth::Bad
-}
-
-// t, f or a proposition at a place.
-fn atom_at(text: &[u8], at: usize, propositions: usize) -> Truth
-    requires { (at ≤ length text.now) × (propositions ≤ 4) }
-    ensures meaning { result ≡ answer_of (atom_at text.now propositions at) }
-    ensures forward { Forward text.now at result }
-{
-    let b = byte_at(text, at);
-    if b == 0x74 {
-        return Truth::On(0xFFFF, at + 1);
-    }
-    if b == 0x66 {
-        return Truth::On(0, at + 1);
-    }
-    proposition_at(text, at, propositions)
-}
-
-// The label inside a parenthesis, with the parenthesis behind it.
-fn closed(text: &[u8], mask: usize, next: usize) -> Truth
-    requires { next ≤ length text.now }
-    ensures meaning { result ≡ closed_on text.now mask next }
-    ensures forward { (i : ℕ) → i < next → mask < 65536 → Forward text.now i result }
-{
-    let j = skip(text, next);
-    if byte_at(text, j) == 0x29 {
-        return Truth::On(mask, j + 1);
-    }
-    Truth::Bad
-}
-
-// Conjunctions joined by `|`.
-#[cycle(and_at_not_at_or_at_paren_at)]
-fn or_at(text: &[u8], at: usize, propositions: usize, depth: usize) -> Truth
-    requires { (at ≤ length text.now) × (propositions ≤ 4) }
-    ensures meaning { result ≡ answer_of (disjunction text.now (operand_at text.now propositions depth) at) }
-    ensures forward { Forward text.now at result }
-{
-    let Truth::On(first, behind) = and_at(text, at, propositions, depth) else {
-        return Truth::Bad;
-    };
-    let mut mask = first;
-    let mut next = behind;
-    loop {
-        let j = skip(text, next);
-        if byte_at(text, j) != 0x7C {
-            return Truth::On(mask, next);
+impl Labels<'_> {
+    // t, f or a proposition that there is, at a place.
+    fn atom_at(self, at: usize) -> Option<Truth>
+        requires { at ≤ length self.text.now }
+        ensures meaning { result ≡ answer_of (atom_at self.entry.text.now self.entry.propositions at) }
+        ensures forward { IfSome result (λ t. Past self.entry.text.now (at + 1) t.behind) }
+    {
+        let b = byte_at(self.text, at);
+        if b == b't' {
+            return Some(Truth {
+                mask: 0xFFFF,
+                behind: at + 1,
+            });
         }
-        let Truth::On(m, n) = and_at(text, j + 1, propositions, depth) else {
-            return Truth::Bad;
-        };
-        mask = mask | m;
-        next = n;
-    }
-}
-
-// Operands joined by `&`.
-#[cycle(and_at_not_at_or_at_paren_at)]
-fn and_at(text: &[u8], at: usize, propositions: usize, depth: usize) -> Truth
-    requires { (at ≤ length text.now) × (propositions ≤ 4) }
-    ensures meaning { result ≡ answer_of (conjunction text.now (operand_at text.now propositions depth) at) }
-    ensures forward { Forward text.now at result }
-{
-    let Truth::On(first, behind) = not_at(text, at, propositions, depth) else {
-        return Truth::Bad;
-    };
-    let mut mask = first;
-    let mut next = behind;
-    loop {
-        let j = skip(text, next);
-        if byte_at(text, j) != 0x26 {
-            return Truth::On(mask, next);
+        if b == b'f' {
+            return Some(Truth {
+                mask: 0,
+                behind: at + 1,
+            });
         }
-        let Truth::On(m, n) = not_at(text, j + 1, propositions, depth) else {
-            return Truth::Bad;
-        };
-        mask = mask & m;
-        next = n;
+        let number = number_at(self.text, at)?;
+        if number.value >= self.propositions {
+            return None;
+        }
+        Some(Truth {
+            mask: proposition_mask(number.value),
+            behind: number.behind,
+        })
     }
-}
 
-// An operand: a negation, a parenthesis, t, f or a proposition; `depth` more `!` and parentheses may open in it.
-#[cycle(and_at_not_at_or_at_paren_at)]
-fn not_at(text: &[u8], at: usize, propositions: usize, depth: usize) -> Truth
-    requires { (at ≤ length text.now) × (propositions ≤ 4) }
-    ensures meaning { result ≡ answer_of (operand_at text.now propositions depth at) }
-    ensures forward { Forward text.now at result }
-{
-    let j = skip(text, at);
-    if depth == 0 {
-        return atom_at(text, j, propositions);
+    // What an operator joins: operands for `&`, chains of those for `|`.
+    #[cycle(label)]
+    fn part_at(self, at: usize, depth: usize, operator: Operator) -> Option<Truth>
+        requires { at ≤ length self.text.now }
+        ensures meaning { result ≡ answer_of (part_of operator self.entry.text.now (operand_at self.entry.text.now self.entry.propositions depth) at) }
+        ensures forward { IfSome result (λ t. Past self.entry.text.now (at + 1) t.behind) }
+    {
+        match operator {
+            Operator::And => self.operand_at(at, depth),
+            Operator::Or => self.chain_at(at, depth, Operator::And),
+        }
     }
-    let b = byte_at(text, j);
-    if b == 0x21 {
-        return match not_at(text, j + 1, propositions, depth - 1) {
-            Truth::Bad => Truth::Bad,
-            Truth::On(mask, next) => Truth::On(0xFFFF - mask, next),
-        };
-    }
-    if b == 0x28 {
-        return paren_at(text, j + 1, propositions, depth - 1);
-    }
-    atom_at(text, j, propositions)
-}
 
-// The label behind an opened parenthesis, and the closing one.
-#[cycle(and_at_not_at_or_at_paren_at)]
-fn paren_at(text: &[u8], at: usize, propositions: usize, depth: usize) -> Truth
-    requires { (at ≤ length text.now) × (propositions ≤ 4) }
-    ensures meaning { result ≡ answer_of (closed text.now (disjunction text.now (operand_at text.now propositions depth) at)) }
-    ensures forward { Forward text.now at result }
-{
-    match or_at(text, at, propositions, depth) {
-        Truth::Bad => Truth::Bad,
-        Truth::On(mask, next) => closed(text, mask, next),
+    // One or more parts, joined by the operator.
+    #[cycle(label)]
+    fn chain_at(self, at: usize, depth: usize, operator: Operator) -> Option<Truth>
+        requires { at ≤ length self.text.now }
+        ensures meaning { result ≡ answer_of (chain_of operator self.entry.text.now (operand_at self.entry.text.now self.entry.propositions depth) at) }
+        ensures forward { IfSome result (λ t. Past self.entry.text.now (at + 1) t.behind) }
+    {
+        let mut truth = self.part_at(at, depth, operator)?;
+        loop {
+            let j = skip(self.text, truth.behind);
+            if byte_at(self.text, j) != operator.mark() {
+                return Some(truth);
+            }
+            let next = self.part_at(j + 1, depth, operator)?;
+            truth = Truth {
+                mask: operator.join(truth.mask, next.mask),
+                behind: next.behind,
+            };
+        }
+    }
+
+    // An operand: a negation, a parenthesis, t, f or a proposition; `depth` more `!` and parentheses may open in it.
+    #[cycle(label)]
+    #[tactic(auto, using(crate::proofs::ReadTruths::operand_steps))]
+    fn operand_at(self, at: usize, depth: usize) -> Option<Truth>
+        requires { at ≤ length self.text.now }
+        ensures meaning { result ≡ answer_of (operand_at self.entry.text.now self.entry.propositions depth at) }
+        ensures forward { IfSome result (λ t. Past self.entry.text.now (at + 1) t.behind) }
+    {
+        let j = skip(self.text, at);
+        if depth == 0 {
+            return self.atom_at(j);
+        }
+        let b = byte_at(self.text, j);
+        if b == b'!' {
+            let negated = self.operand_at(j + 1, depth - 1)?;
+            return Some(Truth {
+                mask: !negated.mask,
+                behind: negated.behind,
+            });
+        }
+        if b == b'(' {
+            return self.parenthesis_at(j + 1, depth - 1);
+        }
+        self.atom_at(j)
+    }
+
+    // The label behind an opened parenthesis, and the closing one.
+    #[cycle(label)]
+    fn parenthesis_at(self, at: usize, depth: usize) -> Option<Truth>
+        requires { at ≤ length self.text.now }
+        ensures meaning { result ≡ answer_of (closed self.entry.text.now (disjunction self.entry.text.now (operand_at self.entry.text.now self.entry.propositions depth) at)) }
+        ensures forward { IfSome result (λ t. Past self.entry.text.now (at + 1) t.behind) }
+    {
+        let label = self.chain_at(at, depth, Operator::Or)?;
+        let j = skip(self.text, label.behind);
+        if byte_at(self.text, j) != b')' {
+            return None;
+        }
+        Some(Truth {
+            mask: label.mask,
+            behind: j + 1,
+        })
     }
 }
 
 // The label at a place.
-pub fn label_at(text: &[u8], at: usize, propositions: usize) -> Truth
+#[tactic(auto, unfolding(labels::specs::LabelReading::label_at))]
+pub fn label_at(text: &[u8], at: usize, propositions: usize) -> Option<Truth>
     requires { (at ≤ length text.now) × (propositions ≤ 4) }
     ensures meaning { result ≡ answer_of (label_at text.now propositions at) }
-    ensures forward { Forward text.now at result }
+    ensures forward { IfSome result (λ t. Past text.now (at + 1) t.behind) }
 {
-    or_at(text, at, propositions, 64)
+    let labels = Labels { text, propositions };
+    labels.chain_at(at, 64, Operator::Or)
 }
