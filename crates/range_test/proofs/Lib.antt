@@ -1,3 +1,3 @@
--- Laws of words, and of loops that count.
-pub mod CountLoops
+-- Laws of words, of tests and of sums over a range.
+pub mod OverRanges
 pub mod Words

@@ -2,31 +2,28 @@
 #![tactic(auto)]
 
 ghost use Rattle.std.specs.Prelude.{◌≡◌, ◌≤◌};
-ghost use Rattle.automaton.specs.Automata.{whole_of, transition_count, in_range};
+ghost use Rattle.automaton.specs.Automata.{transition_count, in_range};
 
-use automaton::{Head, header_values};
+use automaton::{Automaton, header_values};
 
 mod counts;
 mod strays;
 
 // The number of transitions.
-pub fn transition_count(head: Head, transitions: &[u8; 2048]) -> usize
-    requires { (head.states ≤ 32) × (head.letters ≤ 16) }
-    ensures { result ≡ transition_count (whole_of head transitions.now) }
+pub fn transition_count(automaton: &Automaton) -> usize
+    requires { (automaton.now.states ≤ 32) × (automaton.now.letters ≤ 16) }
+    ensures { result ≡ transition_count automaton.now }
 {
-    counts::transitions(transitions, head.states, head.letters)
+    (0..automaton.states)
+        .map(|q| counts::transitions_from(automaton, q))
+        .sum()
 }
 
 // Whether the header values are those of a file, and only states and letters of the header are used.
-pub fn in_range(head: Head, transitions: &[u8; 2048]) -> bool
-    ensures { result ≡ in_range (whole_of head transitions.now) }
+#[tactic(auto, unfolding(automaton::specs::Automata::in_range))]
+pub fn in_range(automaton: &Automaton) -> bool
+    ensures { result ≡ in_range automaton.now }
 {
-    if !header_values(head.states, head.letters, head.initial) {
-        return false;
-    }
-    let accepting = head.accepting;
-    if strays::stray_state(&accepting, head.states) {
-        return false;
-    }
-    !strays::stray_transition(transitions, head.states, head.letters)
+    header_values(automaton.states, automaton.letters, automaton.initial)
+        && !strays::stray(automaton)
 }
