@@ -1,12 +1,16 @@
 // The numbers that stand for answers.
 ghost use Rattle.std.specs.Prelude.{◌≡◌, ◌<◌, ◌^◌};
-ghost use Rattle.answers.specs.Outcomes.{Compared};
-ghost use Rattle.history.specs.OfferAnswers.{NoSlots};
+ghost use Rattle.answers.specs.Outcomes.{outcome_for};
+ghost use Rattle.fixed_form.specs.WriteAnswers.{write_answer};
+ghost use Rattle.history.specs.OfferAnswers.{NoSlots, walk_number, offer_answer};
+ghost use Rattle.history.specs.OpenAnswers.{open_answer};
+ghost use Rattle.history.specs.VerdictAnswers.{verdict_answer};
 ghost use Rattle.boundary.specs.Numbers.{packed, outcome_number, open_number, packed_offer, offer_number, verdict_number, write_number};
 
-use answers::{Comparison, Outcome};
-use fixed_form::WriteAnswer;
-use history::{OfferAnswer, OpenAnswer, VerdictAnswer};
+use answers::{ContainRefusal, Containment, WalkRefusal};
+use fixed_form::WriteRefusal;
+use format::Numbered;
+use history::{OfferRefusal, Offered, OpenRefusal, VerdictRefusal, Walk};
 
 // Kind, count and word length in one number.
 fn packed(kind: usize, count: usize, len: usize) -> u64
@@ -16,38 +20,33 @@ fn packed(kind: usize, count: usize, len: usize) -> u64
     (kind as u64) + 256 * (count as u64) + 16777216 * (len as u64)
 }
 
-// The number of what a walk comes to.
-fn comparison_number(comparison: Comparison) -> u64
-    requires { outcome_number (Compared comparison) < 2 ^ 64 }
-    ensures { result ≡ outcome_number (Compared comparison) }
-{
-    match comparison {
-        Comparison::Contained(count) => packed(0, count, 0),
-        Comparison::Differs(place, len) => packed(1, place, len),
-        Comparison::NoSlots(slots) => packed(110, slots, 0),
-        Comparison::NoRoom(len) => packed(111, 0, len),
-    }
-}
-
 // The number of an outcome of contain.
-pub fn outcome_number(outcome: Outcome) -> u64
-    requires { outcome_number outcome < 2 ^ 64 }
-    ensures { result ≡ outcome_number outcome }
+pub fn outcome_number(outcome: Result<Containment, ContainRefusal>) -> u64
+    requires { outcome_number (outcome_for outcome) < 2 ^ 64 }
+    ensures { result ≡ outcome_number (outcome_for outcome) }
 {
     match outcome {
-        Outcome::Refused(number, file) => packed(100 + number, file, 0),
-        Outcome::Compared(comparison) => comparison_number(comparison),
+        Ok(Containment::Contained(count)) => packed(0, count, 0),
+        Ok(Containment::Differs { place, len }) => packed(1, place, len),
+        Err(ContainRefusal::First(refusal)) => packed(100 + refusal.number(), 1, 0),
+        Err(ContainRefusal::Second(refusal)) => packed(100 + refusal.number(), 2, 0),
+        Err(ContainRefusal::Bound) => packed(108, 0, 0),
+        Err(ContainRefusal::Letters) => packed(107, 0, 0),
+        Err(ContainRefusal::FirstDead) => packed(106, 1, 0),
+        Err(ContainRefusal::SecondDead) => packed(106, 2, 0),
+        Err(ContainRefusal::Walk(WalkRefusal::NoSlots(slots))) => packed(110, slots, 0),
+        Err(ContainRefusal::Walk(WalkRefusal::NoRoom(len))) => packed(111, 0, len),
     }
 }
 
 // The number of what open answers.
-pub fn open_number(answer: OpenAnswer) -> u64
-    requires { open_number answer < 2 ^ 64 }
-    ensures { result ≡ open_number answer }
+pub fn open_number(opened: Result<(), OpenRefusal>) -> u64
+    requires { open_number (open_answer opened) < 2 ^ 64 }
+    ensures { result ≡ open_number (open_answer opened) }
 {
-    match answer {
-        OpenAnswer::Opened => 0,
-        OpenAnswer::Refused(number) => 100 + (number as u64),
+    match opened {
+        Ok(()) => 0,
+        Err(refusal) => 100 + refusal.number() as u64,
     }
 }
 
@@ -64,52 +63,52 @@ fn packed_offer(kind: usize, forward: usize, back: usize, len: usize, walk: usiz
 }
 
 // The number of refusal 10 of a walk.
-fn no_slots_number(walk: usize, slots: usize) -> u64
-    requires { offer_number (NoSlots walk slots) < 2 ^ 64 }
-    ensures { result ≡ offer_number (NoSlots walk slots) }
+fn no_slots_number(walk: Walk, slots: usize) -> u64
+    requires { offer_number (NoSlots (walk_number walk) slots) < 2 ^ 64 }
+    ensures { result ≡ offer_number (NoSlots (walk_number walk) slots) }
 {
-    if walk == 1 {
-        packed_offer(110, slots, 0, 0, walk)
-    } else {
-        packed_offer(110, 0, slots, 0, walk)
+    match walk {
+        Walk::Forward => packed_offer(110, slots, 0, 0, 1),
+        Walk::Back => packed_offer(110, 0, slots, 0, 2),
     }
 }
 
 // The number of what offer answers.
-pub fn offer_number(answer: OfferAnswer) -> u64
-    requires { offer_number answer < 2 ^ 64 }
-    ensures { result ≡ offer_number answer }
+pub fn offer_number(offered: Result<Offered, OfferRefusal>) -> u64
+    requires { offer_number (offer_answer offered) < 2 ^ 64 }
+    ensures { result ≡ offer_number (offer_answer offered) }
 {
-    match answer {
-        OfferAnswer::Taken(forward, back) => packed_offer(0, forward, back, 0, 0),
-        OfferAnswer::Forward(forward, len) => packed_offer(1, forward, 0, len, 0),
-        OfferAnswer::Back(forward, back, len) => packed_offer(2, forward, back, len, 0),
-        OfferAnswer::Refused(number) => packed_offer(100 + number, 0, 0, 0, 0),
-        OfferAnswer::NoSlots(walk, slots) => no_slots_number(walk, slots),
-        OfferAnswer::NoRoom(walk, len) => packed_offer(111, 0, 0, len, walk),
+    match offered {
+        Ok(Offered::Taken { forward, back }) => packed_offer(0, forward, back, 0, 0),
+        Ok(Offered::Forward { forward, len }) => packed_offer(1, forward, 0, len, 0),
+        Ok(Offered::Back { forward, back, len }) => packed_offer(2, forward, back, len, 0),
+        Err(OfferRefusal::Walk(walk, WalkRefusal::NoSlots(slots))) => no_slots_number(walk, slots),
+        Err(OfferRefusal::Walk(walk, WalkRefusal::NoRoom(len))) => {
+            packed_offer(111, 0, 0, len, walk as usize)
+        }
+        Err(refusal) => packed_offer(100 + refusal.number(), 0, 0, 0, 0),
     }
 }
 
 // The number of what verdict answers.
-pub fn verdict_number(answer: VerdictAnswer) -> u64
-    requires { verdict_number answer < 2 ^ 64 }
-    ensures { result ≡ verdict_number answer }
+pub fn verdict_number(accepted: Result<bool, VerdictRefusal>) -> u64
+    requires { verdict_number (verdict_answer accepted) < 2 ^ 64 }
+    ensures { result ≡ verdict_number (verdict_answer accepted) }
 {
-    match answer {
-        VerdictAnswer::Yes => 1,
-        VerdictAnswer::No => 0,
-        VerdictAnswer::Refused(number) => 100 + (number as u64),
+    match accepted {
+        Ok(accepted) => u64::from(accepted),
+        Err(refusal) => 100 + refusal.number() as u64,
     }
 }
 
 // The number of what a call that writes a file answers.
-pub fn write_number(answer: WriteAnswer) -> u64
-    requires { write_number answer < 2 ^ 64 }
-    ensures { result ≡ write_number answer }
+pub fn write_number<R: Numbered>(written: Result<usize, WriteRefusal<R>>) -> u64
+    requires { write_number (write_answer R.number written) < 2 ^ 64 }
+    ensures { result ≡ write_number (write_answer R.number written) }
 {
-    match answer {
-        WriteAnswer::Wrote(len) => 256 * (len as u64),
-        WriteAnswer::Refused(number) => 100 + (number as u64),
-        WriteAnswer::NoRoom(len) => 116 + 256 * (len as u64),
+    match written {
+        Ok(len) => 256 * (len as u64),
+        Err(WriteRefusal::Unread(refusal)) => 100 + refusal.number() as u64,
+        Err(WriteRefusal::NoRoom(len)) => 116 + 256 * (len as u64),
     }
 }
