@@ -1,5 +1,5 @@
--- The parts of a line, written one after another, are the line. Assumes nothing.
-use mathlib.Core.Path.{◌≡◌, sym, ap, ap₂, subst, ◌∙◌}
+-- The line of an offer's refusal; and a line that is written to the front of a buffer, or is not for want of room. Assumes nothing.
+use mathlib.Core.Path.{◌≡◌, refl, sym, ap, subst, ◌∙◌}
 use mathlib.Core.Bool.{true, false}
 use mathlib.Core.List.{List, ◌++◌}
 use Prim.Native.Nat.{ℕ, ◌≤◌}
@@ -7,55 +7,49 @@ use native.Mathlib.Nat.{zero-add}
 use native.Mathlib.Omega.{arith}
 use lib.Dec.{leb}
 use lib.ListN.{length, drop}
+use Rattle.std.specs.Prelude.{Some, None, Err}
+use Rattle.answers.specs.declared.WalkRefusal.TheVariants.{NoSlots, NoRoom}
 use Rattle.history.specs.declared.Entry.{Entry}
-use Rattle.history.specs.OfferAnswers.{OfferAnswer}
-use Rattle.report.specs.declared.answer_lines.Summary.{Summary}
-use Rattle.report.specs.Summary.{SummaryOf}
+use Rattle.history.specs.declared.OfferRefusal.{OfferRefusal}
+use Rattle.history.specs.declared.OfferRefusal.TheVariants.{Malformed, Empty, File, Bound, Letters, Dead, NotSmaller, Walk}
+use Rattle.history.specs.OfferAnswers.{offer_answer, offer_refusal_number}
 use Rattle.buffers.specs.Buffers.{WrittenAt}
-use Rattle.text.specs.Text.{decimal, percent_saved, space}
-use Rattle.report.specs.Line.{states_text, of_text, saved_text, walks_text, fields}
-use Rattle.report.specs.Line.{offer_line, line_after, answered_length, Lined}
-use Rattle.buffers.proofs.Buffers.{written_append, written_two, written_as, written_keeps_length}
+use Rattle.buffers.specs.Cursors.{Added}
+use Rattle.buffers.specs.declared.Cursor.{Cursor}
+use Rattle.report.specs.Line.{offer_line, refused_line, line_after, answered_length, Lined}
+use Rattle.buffers.proofs.Buffers.{written_keeps_length}
 
--- the fields of an edition number, held states, first states and a percent
-abbrev fields_text : ℕ → ℕ → ℕ → ℕ → List ℕ
-fields_text n s f p = space ++ decimal n ++ states_text ++ decimal s ++ of_text ++ decimal f ++ saved_text ++ decimal p ++ walks_text
-
-fields_shown : (E : Entry) (s : Summary) → SummaryOf E s
-    → fields_text s.edition s.states s.first (percent_saved s.first s.states) ≡ fields E
-unfolding fields
-fields_shown E s h =
-    ap (λ (n : ℕ). fields_text n s.states s.first (percent_saved s.first s.states)) (sym h.edition)
-    ∙ ap₂ (λ (k f : ℕ). fields_text E.edition k f (percent_saved f k)) (sym h.states) (sym h.first)
-
-pub fields_written : {d e₁ e₂ e₃ e₄ f : List ℕ} {at n₁ n₂ n₃ n₄ r : ℕ} (s : Summary) (percent : ℕ)
-    → percent ≡ percent_saved s.first s.states
-    → WrittenAt d at (space ++ decimal s.edition) e₁ n₁
-    → WrittenAt e₁ n₁ (states_text ++ decimal s.states) e₂ n₂
-    → WrittenAt e₂ n₂ (of_text ++ decimal s.first) e₃ n₃
-    → WrittenAt e₃ n₃ (saved_text ++ decimal percent) e₄ n₄
-    → WrittenAt e₄ n₄ walks_text f r
-    → (E : Entry) → SummaryOf E s → WrittenAt d at (fields E) f r
-fields_written s percent q a b c g w E h =
-    let ab = written_two states_text (decimal s.states) a b in
-    let abc = written_two of_text (decimal s.first) ab c in
-    let all = written_append (written_two saved_text (decimal percent) abc g) w in
-    written_as (ap (fields_text s.edition s.states s.first) q ∙ fields_shown E s h) all
-
-pub answer_written : {d e : List ℕ} {r : ℕ} (E : Entry) (w : List ℕ) {x y : OfferAnswer} → x ≡ y
-    → WrittenAt d 0 (offer_line E y w) e r → WrittenAt d 0 (offer_line E x w) e r
-answer_written E w q u = written_as (ap (λ (x : OfferAnswer). offer_line E x w) (sym q)) u
+-- a refusal's line is that of its number
+pub refusal_shown : (E : Entry) (w : List ℕ) (r : OfferRefusal) → refused_line (offer_refusal_number r) ≡ offer_line E (offer_answer (Err r)) w
+unfolding offer_line
+refusal_shown E w Malformed = refl
+refusal_shown E w Empty = refl
+refusal_shown E w (File f) = refl
+refusal_shown E w Bound = refl
+refusal_shown E w Letters = refl
+refusal_shown E w Dead = refl
+refusal_shown E w NotSmaller = refl
+refusal_shown E w (Walk i (NoSlots n)) = refl
+refusal_shown E w (Walk i (NoRoom len)) = refl
 
 -- the buffer has the bytes that are asked for, and the line is written to its front
-pub line_written : (m : ℕ) {l d e : List ℕ} {r : ℕ} → leb m (length d) ≡ true → WrittenAt d 0 l e r → Lined m l d e r
+pub line_written : (m : ℕ) {l d e : List ℕ} {r : ℕ} → leb m (length d) ≡ true → WrittenAt d 0 l e r → Lined m l d e (Some r)
 unfolding line_after answered_length
 line_written m {l} {d} {e} {r} h u = record {
   bytes = u.bytes ∙ ap (λ (k : ℕ). l ++ drop k d) (zero-add (length l)) ∙ rw h;
-  answer = u.behind ∙ zero-add (length l) ∙ rw h;
+  answer = ap Some (u.behind ∙ zero-add (length l)) ∙ rw h;
   within = subst (λ (k : ℕ). r ≤ k) (sym (written_keeps_length u)) u.within;
 }
 
+-- the same by a cursor that begins at the front of the buffer, where the buffer ends as the cursor leaves it
+pub line_added : (m : ℕ) {l b e : List ℕ} {c d : Cursor} → true ≡ leb m (length b) → c.out.now ≡ b → c.at ≡ 0 → Added c l d → e ≡ d.out.now
+    → Lined m l b e (Some d.at)
+line_added m {l} {b} {e} {c} {d} h o z u q =
+    let v : WrittenAt b c.at l d.out.now d.at = subst (λ (x : List ℕ). WrittenAt x c.at l d.out.now d.at) o u.written in
+    let w : WrittenAt b 0 l d.out.now d.at = subst (λ (k : ℕ). WrittenAt b k l d.out.now d.at) z v in
+    line_written m (sym h) (subst (λ (x : List ℕ). WrittenAt b 0 l x d.at) (sym q) w)
+
 -- it has not
-pub line_left : (m : ℕ) {l : List ℕ} (d : List ℕ) → leb m (length d) ≡ false → Lined m l d d 0
+pub line_left : (m : ℕ) {l : List ℕ} (d : List ℕ) → false ≡ leb m (length d) → Lined m l d d None
 unfolding line_after answered_length
-line_left m d h = record { bytes = rw h; answer = rw h; within = omega arith }
+line_left m d h = record { bytes = rw (sym h); answer = rw (sym h); within = tt }

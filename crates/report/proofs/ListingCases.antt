@@ -8,6 +8,7 @@ use borrow.Author.Tests.{le-leb, lt-ltb, le-ltb, eq-eqb, ne_eqb}
 use lib.Dec.{leb}
 use lib.ListN.{length, drop, take, get_or, replicate, length-replicate}
 use lib.Seq.{length-take-le}
+use Rattle.std.specs.Prelude.{Option, Some}
 use Rattle.history.proofs.OfferBuffers.{offer_part_le}
 use Rattle.history.specs.declared.Entry.{Entry}
 use Rattle.history.specs.OfferAnswers.{OfferAnswer}
@@ -20,40 +21,18 @@ use Rattle.history.specs.Entries.{fresh_entry}
 use Rattle.report.specs.Listing.{max_file, work_bytes, word_bytes, offer_listing, open_listing, listing}
 
 -- the same line, where more room is asked for and is there
-pub lined_more : {m k : ℕ} {l d e : List ℕ} {n : ℕ} → m ≤ k → k ≤ length d → Lined m l d e n → Lined k l d e n
+pub lined_more : {m k : ℕ} {l d e : List ℕ} {n : Option ℕ} → m ≤ k → k ≤ length d → Lined m l d e n → Lined k l d e n
 unfolding line_after answered_length
 lined_more {m} {k} {l} {d} {e} {n} h r u =
     let less : leb m (length d) ≡ true = le-leb m (length d) (omega (arith, h, r)) in
     let more : leb k (length d) ≡ true = le-leb k (length d) r in
     let bytes : e ≡ l ++ drop (length l) d = u.bytes ∙ rw less in
-    let answer : n ≡ length l = u.answer ∙ rw less in
+    let answer : n ≡ Some (length l) = u.answer ∙ rw less in
     record { bytes = bytes ∙ rw more; answer = answer ∙ rw more; within = u.within }
 
 -- the line by another name
-pub lined_as : {m : ℕ} {l k d e : List ℕ} {n : ℕ} → l ≡ k → Lined m l d e n → Lined m k d e n
+pub lined_as : {m : ℕ} {l k d e : List ℕ} {n : Option ℕ} → l ≡ k → Lined m l d e n → Lined m k d e n
 lined_as {m} {l} {k} {d} {e} {n} q u = subst (λ (x : List ℕ). Lined m x d e n) q u
-
-module _ (input first offer : List ℕ) where
-  pub listing_usage : (length input ≡ 1 → ⊥) → usage_text ++ newline ≡ listing input first offer
-  unfolding listing
-  listing_usage h = rw (ne_eqb (length input) 1 h)
-
-  pub listing_long_first : length input ≡ 1 → max_file < length first → long_text ++ newline ≡ listing input first offer
-  unfolding listing
-  listing_long_first h l = rw (eq-eqb (length input) 1 h) (rw (lt-ltb max_file (length first) l))
-
-  pub listing_long_offer : length input ≡ 1 → length first ≤ max_file → max_file < length offer
-      → long_text ++ newline ≡ listing input first offer
-  unfolding listing
-  listing_long_offer h f l =
-      rw (eq-eqb (length input) 1 h) (rw (le-ltb max_file (length first) f) (rw (lt-ltb max_file (length offer) l)))
-
-  pub listing_calls : length input ≡ 1 → length first ≤ max_file → length offer ≤ max_file
-      → open_listing (open_of fresh_entry first).answer (open_of fresh_entry first).entry offer (get_or input 0 0)
-      ≡ listing input first offer
-  unfolding listing
-  listing_calls h f l =
-      rw (eq-eqb (length input) 1 h) (rw (le-ltb max_file (length first) f) (rw (le-ltb max_file (length offer) l)))
 
 -- the offer of the listing, with buffers of zeros
 abbrev offer_made : Entry → List ℕ → ℕ → Offer
@@ -80,20 +59,3 @@ pub part_room : (E : Entry) (offer : List ℕ) (b : ℕ) (x : OfferAnswer) (word
     → length word ≡ word_bytes → part ≡ take (part_length x) word → line_room part ≤ 256 + 4 * word_bytes
 part_room E offer b x word part d long p =
     let h = part_le E offer b x d in omega (arith, h, ap length p, length-take-le (part_length x) word (omega (arith, h, long)))
-
--- the line of the answer x that open gives to a fresh entry, and of the entry F that it leaves
-module _ (first offer : List ℕ) (b : ℕ) (E : Entry) (x : OpenAnswer) (F : Entry) (empty : E ≡ fresh_entry)
-    (gives : x ≡ (open_of E first).answer) (leaves : F ≡ (open_of E first).entry) where
-  abbrev calls_line : List ℕ
-  calls_line = open_listing (open_of fresh_entry first).answer (open_of fresh_entry first).entry offer b
-
-  same_calls : open_listing x F offer b ≡ calls_line
-  same_calls =
-      ap₂ (λ (y : OpenAnswer) (G : Entry). open_listing y G offer b) gives leaves
-      ∙ ap (λ (G : Entry). open_listing (open_of G first).answer (open_of G first).entry offer b) empty
-
-  pub listing_opened : x ≡ Opened → offer_listing F offer b ≡ calls_line
-  listing_opened told = ap (λ (y : OpenAnswer). open_listing y F offer b) (sym told) ∙ same_calls
-
-  pub listing_refused : {n : ℕ} → x ≡ Refused n → refused_line n ≡ calls_line
-  listing_refused told = ap (λ (y : OpenAnswer). open_listing y F offer b) (sym told) ∙ same_calls

@@ -1,4 +1,3 @@
 -- The listing (01, "Listing").
 pub mod Line
-pub mod Summary
 pub mod Listing

@@ -6,14 +6,17 @@
 --   line_room w            the bytes that are asked for a line with the letters w: a number takes at most 20, a letter and its space 4
 --   line_after m l d       a buffer d after the line l, for which m bytes are asked: the line in front and the rest as it was, or
 --                          nothing written where d has fewer
---   answered_length m l d  the length that is answered: the line's, or 0 where nothing is written
+--   answered_length m l d  the length that is answered: the line's, or none where nothing is written
 --   Lined m l d e n        the buffer d is e after the line l, and n is the length that is answered, which is within the buffer
+--   misuse_line x          the line of a misuse of the listing: `usage` where its input is not one byte, `long` where a file is too long
 -- Shown by `taken_line` and `back_line`, the lines that 01 prints, and by the contract of `offer_line`. Assumes nothing.
-use Rattle.std.specs.Prelude.{◌≡◌, cond, List, [], ◌∷◌, ◌++◌, ℕ, ◌+◌, ◌*◌, ◌≤◌, leb, length, drop}
+use Rattle.std.specs.Prelude.{◌≡◌, cond, List, [], ◌∷◌, ◌++◌, ℕ, ◌+◌, ◌*◌, ◌≤◌, leb, length, drop, Option, Some, None, IfSome}
 use Rattle.text.specs.Text.{decimal, percent_saved, space, letters}
 use Rattle.history.specs.declared.Entry.{Entry}
 use Rattle.history.specs.OfferAnswers.{OfferAnswer}
 use Rattle.history.specs.OfferAnswers.{Taken, Forward, Back, Refused, NoSlots, NoRoom}
+use Rattle.report.specs.declared.Misuse.{Misuse}
+use Rattle.report.specs.declared.Misuse.TheVariants.{Usage, Long}
 
 abbrev pub newline : List ℕ
 newline = 0x0a ∷ []
@@ -77,16 +80,20 @@ offer_line E (Refused n) w = refused_line n
 offer_line E (NoSlots i n) w = refused_line 10
 offer_line E (NoRoom i len) w = refused_line 11
 
+abbrev pub misuse_line : Misuse → List ℕ
+misuse_line Usage = usage_text ++ newline
+misuse_line Long = long_text ++ newline
+
 abbrev pub line_room : List ℕ → ℕ
 line_room w = 256 + 4 * length w
 
 unfoldable pub line_after : ℕ → List ℕ → List ℕ → List ℕ
 line_after m l d = cond (leb m (length d)) (l ++ drop (length l) d) d
 
-unfoldable pub answered_length : ℕ → List ℕ → List ℕ → ℕ
-answered_length m l d = cond (leb m (length d)) (length l) 0
+unfoldable pub answered_length : ℕ → List ℕ → List ℕ → Option ℕ
+answered_length m l d = cond (leb m (length d)) (Some (length l)) None
 
-pub record Lined (m : ℕ) (l d e : List ℕ) (n : ℕ) : Type 0 where
+pub record Lined (m : ℕ) (l d e : List ℕ) (n : Option ℕ) : Type 0 where
   pub bytes : e ≡ line_after m l d
   pub answer : n ≡ answered_length m l d
-  pub within : n ≤ length e
+  pub within : IfSome n (λ k. k ≤ length e)

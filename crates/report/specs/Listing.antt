@@ -2,15 +2,17 @@
 -- it is `long`; then the first file is opened in a fresh entry and the other one offered with that byte as the bound, 65,520 bytes of
 -- work and 2,048 of word, and the line is that of the offer, or of the refusal that came up.
 --   listing input first offer   the line, of the bytes of standard input and of the two files
--- Shown by the contract of `listing_line`. Assumes nothing.
-use Rattle.std.specs.Prelude.{cond, ◌||◌, not, List, ◌++◌, ℕ, eqb, ltb, length, get_or, replicate}
+--   bound_listing x f o         the line of what the input comes to, a misuse or a bound, with the files f and o
+-- Shown by the contract of `listing_line`; only a contract between functions names `bound_listing`. Assumes nothing.
+use Rattle.std.specs.Prelude.{cond, ◌||◌, not, List, ◌++◌, ℕ, eqb, ltb, length, get_or, replicate, Result, Ok, Err}
 use Rattle.history.specs.declared.Entry.{Entry}
 use Rattle.history.specs.OpenAnswers.{OpenAnswer}
 use Rattle.history.specs.OpenAnswers.{Opened, Refused}
 use Rattle.history.specs.Entries.{fresh_entry}
 use Rattle.history.specs.Opens.{open_of}
 use Rattle.history.specs.Offers.{offer_of, offer_part}
-use Rattle.report.specs.Line.{newline, usage_text, long_text, refused_line, offer_line}
+use Rattle.report.specs.declared.Misuse.{Misuse}
+use Rattle.report.specs.Line.{newline, usage_text, long_text, refused_line, offer_line, misuse_line}
 
 abbrev pub max_file : ℕ
 max_file = 65536
@@ -38,3 +40,8 @@ listing input first offer =
     cond (not (eqb (length input) 1)) (usage_text ++ newline)
     (cond (ltb max_file (length first) || ltb max_file (length offer)) (long_text ++ newline)
     (open_listing (open_of fresh_entry first).answer (open_of fresh_entry first).entry offer (get_or input 0 0)))
+
+abbrev pub bound_listing : Result ℕ Misuse → List ℕ → List ℕ → List ℕ
+bound_listing (Err x) first offer = misuse_line x
+bound_listing (Ok b) first offer =
+    open_listing (open_of fresh_entry first).answer (open_of fresh_entry first).entry offer b

@@ -1,114 +1,109 @@
-// The line of each answer of an offer, written to the front of a buffer that has the room for it.
-ghost use Rattle.std.specs.Prelude.{List, ◌++◌, ℕ, ◌+◌, ◌*◌, ◌≤◌, length};
-ghost use Rattle.buffers.specs.Buffers.{WrittenAt};
+// The line of each answer and of each misuse, written behind what stands in a lent buffer.
+ghost use Rattle.std.specs.Prelude.{◌++◌, ◌+◌, ◌*◌, ◌≤◌, length};
+ghost use Rattle.buffers.specs.Cursors.{HasRoom, Added};
 ghost use Rattle.text.specs.Text.{decimal, space};
-ghost use Rattle.report.specs.Line.{newline, word_text, fields, offer_line, refused_line, line_room};
+ghost use Rattle.history.specs.OfferAnswers.{offer_answer};
+ghost use Rattle.report.specs.Line.{newline, word_text, fields, offer_line, refused_line, misuse_line, line_room};
 ghost use Rattle.text.specs.Text.{letters as letters_text};
-ghost use Rattle.report.specs.Summary.{SummaryOf};
 
-use buffers::{put_byte, put_text};
-use history::{Entry, OfferAnswer};
+use crate::Misuse;
+use buffers::Cursor;
+use format::Numbered;
+use history::{Entry, OfferRefusal, Offered};
 use text::{percent_saved, put_decimal, put_field, put_letters};
 
-// What the line shows of an entry: its edition number, the held states and the states of its first edition.
-#[derive(Clone, Copy)]
-pub struct Summary {
-    pub edition: usize,
-    pub states: usize,
-    pub first: usize,
-}
-
 // Writes the fields of an entry, from the space before the edition number to the space before the counts.
-fn put_fields(line: &mut [u8], at: usize, summary: Summary) -> usize
-    requires { at + 107 ≤ length line.old }
-    ensures written_at { (E : Entry) → SummaryOf E summary → WrittenAt line.old at (fields E) line.new result }
-    ensures upper_bound { result ≤ at + 107 }
+fn put_fields(line: &mut Cursor, entry: &Entry)
+    requires { HasRoom line.old 107 }
+    ensures added { Added line.old (fields entry.now) line.new }
+    ensures upper_bound { line.new.at ≤ line.old.at + 107 }
 {
-    let edition = put_field(line, at, b" ", summary.edition);
-    let states = put_field(line, edition, b" states ", summary.states);
-    let first = put_field(line, states, b" of ", summary.first);
-    let percent = percent_saved(summary.first, summary.states);
-    let saved = put_field(line, first, b" saved ", percent);
-    put_text(line, saved, b" walks ")
+    let states = entry.held.states;
+    put_field(line, b" ", entry.edition);
+    put_field(line, b" states ", states);
+    put_field(line, b" of ", entry.first);
+    put_field(line, b" saved ", percent_saved(entry.first, states));
+    line.put_text(b" walks ");
 }
 
 // Writes a line's front: the outcome, the fields, the forward count and a space.
-fn put_front(line: &mut [u8], outcome: &[u8], summary: Summary, forward: usize) -> usize
-    requires { length outcome.now + 128 ≤ length line.old }
-    ensures written_at { (E : Entry) → SummaryOf E summary
-        → WrittenAt line.old 0 (outcome.now ++ fields E ++ decimal forward ++ space) line.new result }
-    ensures upper_bound { result ≤ length outcome.now + 128 }
+fn put_front(line: &mut Cursor, outcome: &[u8], entry: &Entry, forward: usize)
+    requires { HasRoom line.old (length outcome.now + 128) }
+    ensures added { Added line.old (outcome.now ++ fields entry.now ++ decimal forward ++ space) line.new }
+    ensures upper_bound { line.new.at ≤ line.old.at + length outcome.now + 128 }
 {
-    let start = put_text(line, 0, outcome);
-    let count = put_fields(line, start, summary);
-    let behind = put_decimal(line, count, forward);
-    put_byte(line, behind, b' ')
+    line.put_text(outcome);
+    put_fields(line, entry);
+    put_decimal(line, forward);
+    line.put_byte(b' ');
 }
 
 // Writes a line's end with a word: `word`, the letters and the newline.
-fn put_word(line: &mut [u8], at: usize, letters: &[u8]) -> usize
-    requires { at + 6 + 4 * length letters.now ≤ length line.old }
-    ensures { WrittenAt line.old at (word_text ++ letters_text letters.now ++ newline) line.new result }
+fn put_word(line: &mut Cursor, letters: &[u8])
+    requires { HasRoom line.old (6 + 4 * length letters.now) }
+    ensures { Added line.old (word_text ++ letters_text letters.now ++ newline) line.new }
 {
-    let start = put_text(line, at, b" word");
-    let behind = put_letters(line, start, letters);
-    put_byte(line, behind, b'\n')
+    line.put_text(b" word");
+    put_letters(line, letters);
+    line.put_byte(b'\n');
 }
 
-// Writes the line of an offer that is taken.
-fn put_taken(line: &mut [u8], summary: Summary, forward: usize, back: usize) -> usize
-    requires { 256 ≤ length line.old }
-    ensures { (E : Entry) (w : List ℕ) → SummaryOf E summary
-        → WrittenAt line.old 0 (offer_line E (OfferAnswer.Taken forward back) w) line.new result }
+// Writes the line of an offer that comes to an outcome.
+fn put_offered(line: &mut Cursor, entry: &Entry, offered: Offered, letters: &[u8])
+    requires { HasRoom line.old (line_room letters.now) }
+    ensures { Added line.old (offer_line entry.now (offer_answer (Ok offered)) letters.now) line.new }
 {
-    let count = put_front(line, b"taken", summary, forward);
-    let behind = put_decimal(line, count, back);
-    put_byte(line, behind, b'\n')
-}
-
-// Writes the line of an offer whose forward walk differs.
-fn put_forward(line: &mut [u8], summary: Summary, forward: usize, letters: &[u8]) -> usize
-    requires { line_room letters.now ≤ length line.old }
-    ensures { (E : Entry) (n : ℕ) → SummaryOf E summary
-        → WrittenAt line.old 0 (offer_line E (OfferAnswer.Forward forward n) letters.now) line.new result }
-{
-    let count = put_front(line, b"forward", summary, forward);
-    let behind = put_byte(line, count, b'-');
-    put_word(line, behind, letters)
-}
-
-// Writes the line of an offer whose back walk differs.
-fn put_back(line: &mut [u8], summary: Summary, forward: usize, back: usize, letters: &[u8]) -> usize
-    requires { line_room letters.now ≤ length line.old }
-    ensures { (E : Entry) (n : ℕ) → SummaryOf E summary
-        → WrittenAt line.old 0 (offer_line E (OfferAnswer.Back forward back n) letters.now) line.new result }
-{
-    let count = put_front(line, b"back", summary, forward);
-    let behind = put_decimal(line, count, back);
-    put_word(line, behind, letters)
+    match offered {
+        Offered::Taken { forward, back } => {
+            put_front(line, b"taken", entry, forward);
+            put_decimal(line, back);
+            line.put_byte(b'\n');
+        }
+        Offered::Forward { forward, .. } => {
+            put_front(line, b"forward", entry, forward);
+            line.put_byte(b'-');
+            put_word(line, letters);
+        }
+        Offered::Back { forward, back, .. } => {
+            put_front(line, b"back", entry, forward);
+            put_decimal(line, back);
+            put_word(line, letters);
+        }
+    }
 }
 
 // Writes the line of a refusal.
-pub fn put_refused(line: &mut [u8], n: usize) -> usize
-    requires { 256 ≤ length line.old }
-    ensures { WrittenAt line.old 0 (refused_line n) line.new result }
+pub fn put_refused<R: Numbered>(line: &mut Cursor, refusal: R)
+    requires { HasRoom line.old 256 }
+    ensures { Added line.old (refused_line (R.number refusal)) line.new }
 {
-    let behind = put_field(line, 0, b"refused ", n);
-    put_byte(line, behind, b'\n')
+    put_field(line, b"refused ", refusal.number());
+    line.put_byte(b'\n');
 }
 
 // Writes the line of an offer's answer.
-pub fn put_answer(line: &mut [u8], summary: Summary, answer: OfferAnswer, letters: &[u8]) -> usize
-    requires { line_room letters.now ≤ length line.old }
-    ensures { (E : Entry) → SummaryOf E summary
-        → WrittenAt line.old 0 (offer_line E answer letters.now) line.new result }
+pub fn put_answer(
+    line: &mut Cursor,
+    entry: &Entry,
+    answer: Result<Offered, OfferRefusal>,
+    letters: &[u8],
+)
+    requires { HasRoom line.old (line_room letters.now) }
+    ensures { Added line.old (offer_line entry.now (offer_answer answer) letters.now) line.new }
 {
     match answer {
-        OfferAnswer::Taken(forward, back) => put_taken(line, summary, forward, back),
-        OfferAnswer::Forward(forward, _) => put_forward(line, summary, forward, letters),
-        OfferAnswer::Back(forward, back, _) => put_back(line, summary, forward, back, letters),
-        OfferAnswer::Refused(n) => put_refused(line, n),
-        OfferAnswer::NoSlots(_, _) => put_refused(line, 10),
-        OfferAnswer::NoRoom(_, _) => put_refused(line, 11),
+        Ok(offered) => put_offered(line, entry, offered, letters),
+        Err(refusal) => put_refused(line, refusal),
+    }
+}
+
+// Writes the line of a misuse.
+pub fn put_misuse(line: &mut Cursor, misuse: Misuse)
+    requires { HasRoom line.old 256 }
+    ensures { Added line.old (misuse_line misuse) line.new }
+{
+    match misuse {
+        Misuse::Usage => line.put_text(b"usage\n"),
+        Misuse::Long => line.put_text(b"long\n"),
     }
 }

@@ -1,10 +1,12 @@
--- `report::refused_line` meets its contract: the line where there is room, and nothing where there is not. Assumes nothing.
-use mathlib.Core.Path.{sym, ◌∙◌}
-use Rattle.report.proofs.Lines.{line_written, line_left}
+-- `report::refused_line` meets its contract: the line of the refusal's number where there is room, and nothing where there is not. Assumes nothing.
+use Rattle.std.proofs.Common.{rules}
+use Rattle.report.proofs.Lines.{line_added, line_left}
 use Rattle.report.proofs.refused_line.Goals as goal
 
-pub returns-then-has_room : goal.returns-then-has_room
-returns-then-has_room c = line_written 256 (sym c.has_room.ensures ∙ c.if-has_room.true) c.put_refused.ensures
+pub returns-then-not-has_room : goal.returns-then-not-has_room
+returns-then-not-has_room g c = line_left _ _ c.if-not-has_room.ensures
 
 pub returns : goal.returns
-returns c = line_left 256 _ (sym c.has_room.ensures ∙ c.if-has_room.false)
+returns g c =
+    let same = c.put_refused.ensures.same_buffer in
+    line_added _ c.if-not-has_room.ensures c.new-cursor.ensures.out c.new-cursor.ensures.at c.put_refused.ensures (search rules)
