@@ -1,53 +1,49 @@
 -- The left targets of a step, discovered from the lowest up: before each of them those that are still to come, from the list that the work
--- buffer shows, make the walk of all of them, and none of them is listed. The idea: what is listed meanwhile has another left state, a class
--- that is not 0 stays, and targets that are listed change nothing. Assumes nothing.
-use mathlib.Core.Path.{◌≡◌, refl, sym, ◌∙◌, ap, subst}
-use mathlib.Core.Bool.{Bool, true, false, cond, ◌&&◌, not, true≢false}
-use mathlib.Core.List.{List, [], ◌∷◌, ◌++◌, map}
-use Prim.Native.Nat.{ℕ, suc, ◌+◌, ◌≤◌, ◌<◌}
+-- buffer shows, make the walk of all of them, and none of them is listed. The idea: what is listed meanwhile has another left state, and a class
+-- that is not 0 stays. Assumes nothing.
+use mathlib.Core.Path.{◌≡◌, refl, sym, ◌∙◌, ap}
+use mathlib.Core.Bool.{Bool, true, false, cond}
+use mathlib.Core.List.{List, [], ◌∷◌, map}
+use Prim.Native.Nat.{ℕ, zero, suc, ◌+◌, ◌≤◌, ◌<◌}
 use native.Mathlib.Omega.{arith}
-use borrow.Author.Tests.{eqb-true}
+use borrow.Author.Tests.{eqb-true, ne_eqb}
 use lib.Dec.{eqb}
 use lib.ListN.{length}
+use Rattle.std.specs.Prelude.{Result, Ok, Err}
+use Rattle.std.proofs.lemmas.Result.{IfOk-weaker}
 use Rattle.automaton.specs.declared.Automaton.{Automaton}
 use Rattle.automaton.specs.Automata.{max_states}
 use Rattle.automaton.specs.Ranges.{those}
 use Rattle.automaton.specs.Sets.{bit}
-use Rattle.automaton.proofs.Members.{those_same}
+use Rattle.automaton.proofs.Bits.{bit_zero}
 use Rattle.slots.specs.declared.Vertex.{Vertex}
-use Rattle.slots.specs.Slots.{slot_count, same_list, same_vertex}
-use Rattle.slots.proofs.Compared.{left_differs}
+use Rattle.slots.specs.Slots.{slot_count, same_list}
 use Rattle.classes.specs.Classes.{class_or, class_of, listed_with}
 use Rattle.classes.proofs.Appended.{class_next_slot, listed_next_slot}
-use Rattle.graph.specs.Discovery.{Node, Walk, going, below, discover, discover_all}
+use Rattle.graph.specs.Discovery.{Node, going, below, discover, discover_all}
 use Rattle.graph.specs.LagGraph.{lag_graph}
-use Rattle.graph.proofs.Unlisted.{discover_unlisted}
-use Rattle.discovery.specs.declared.Walked.{Walked}
-use Rattle.discovery.specs.declared.Walked.TheVariants.{Going, Ended, Full}
-use Rattle.discovery.specs.declared.Sides.{Sides}
-use Rattle.discovery.specs.Representation.{vertex_of, Represents, Becomes, NoFewer, Takes, Grows, ClassKnown, side_of, SideReady, TargetReady, SidesReady}
-use Rattle.discovery.proofs.RepresentedSlots.{listed_represented}
-use Rattle.discovery.proofs.FoldLoops.{EndsWalk, FoldLoops, onward_next, onward_stop, onward_end}
+use Rattle.discovery.specs.declared.Stop.{Stop}
+use Rattle.discovery.specs.declared.sides.Sides.{Sides}
+use Rattle.discovery.specs.Representation.{vertex_of, Represents, Becomes, Takes, Grows, ClassKnown, side_of, counters_to, SideReady, TargetReady, SidesReady}
+use Rattle.discovery.proofs.FoldLoops.{FoldLoops, onward_next, onward_stop, onward_end}
 
 -- What the slots and the answer of two steps give together.
 
-pub grows_none : (work : List ℕ) (n : ℕ) → Grows work n work (Going n)
+pub grows_none : (work : List ℕ) (n : ℕ) → Grows work n work (Ok n)
 grows_none work n = record { slots = λ s l. refl; no_fewer = omega arith }
 
 -- a step that starts where the other one ended
-pub grows_on : (work : List ℕ) (n : ℕ) (work' : List ℕ) (m : ℕ) (work'' : List ℕ) (r : Walked) → Grows work n work' (Going m)
+pub grows_on : (work : List ℕ) (n : ℕ) (work' : List ℕ) (m : ℕ) (work'' : List ℕ) (r : Result ℕ Stop) → Grows work n work' (Ok m)
     → Grows work' m work'' r → Grows work n work'' r
 grows_on work n work' m work'' r G H =
-    let l = G.no_fewer in
-    record { slots = λ s k. H.slots s (omega arith) ∙ G.slots s k; no_fewer = more r H.no_fewer }
-  where
-    more : (q : Walked) → NoFewer m q → NoFewer n q
-    more (Going x) h = let l = G.no_fewer in omega arith
-    more (Ended i a p) h = tt
-    more (Full x) h = tt
+    let l : n ≤ m = G.no_fewer in
+    record {
+      slots = λ s k. H.slots s (omega arith) ∙ G.slots s k;
+      no_fewer = IfOk-weaker r (λ x. m ≤ x) (λ x. n ≤ x) (λ x k. omega arith) H.no_fewer;
+    }
 
 -- A vertex has taken slot n: what is known of classes and of listed states.
-module _ (work work' : List ℕ) (n m : ℕ) (v : Vertex) (G : Grows work n work' (Going m)) (K : Takes n v work' (Going m)) where
+module _ (work work' : List ℕ) (n m : ℕ) (v : Vertex) (G : Grows work n work' (Ok m)) (K : Takes n v work' (Ok m)) where
   -- a class that is not 0 stays
   class_kept : (cs : List ℕ) (s : ℕ) → class_of work cs n ≡ suc s → class_of work' cs m ≡ suc s
   class_kept cs s e =
@@ -71,114 +67,122 @@ module _ (work work' : List ℕ) (n m : ℕ) (v : Vertex) (G : Grows work n work
       ∙ listed_next_slot work work' n v G.slots K.1 cs t
       ∙ rw (e, d)
 
+-- Targets as a list: P of each of them, and each below those after it.
+
+abbrev pub Each : (ℕ → Type 0) → List ℕ → Type 0
+Each P [] = Unit {0}
+Each P (t ∷ ts) = P t × Each P ts
+
+abbrev pub Rising : List ℕ → Type 0
+Rising [] = Unit {0}
+Rising (t ∷ ts) = Each (λ k. t < k) ts × Rising ts
+
+each_both : (P Q R : ℕ → Type 0) → ((t : ℕ) → P t → Q t → R t) → (ts : List ℕ) → Each P ts → Each Q ts → Each R ts
+each_both P Q R h [] p q = tt
+each_both P Q R h (t ∷ ts) p q = (h t p.0 q.0, each_both P Q R h ts p.1 q.1)
+
+those_each : (f : ℕ → Bool) (P : ℕ → Type 0) (n i : ℕ) → ((t : ℕ) → i ≤ t → t < i + n → f t ≡ true → P t) → Each P (those f n i)
+unfolding those
+those_each f P zero i h = tt
+those_each f P (suc n) i h = go (f i) refl (those_each f P n (suc i) (λ t l m. h t (omega arith) (omega arith)))
+  where
+    go : (c : Bool) → f i ≡ c → Each P (those f n (suc i)) → Each P (elim c [ true ↦ i ∷ those f n (suc i) | false ↦ those f n (suc i) ])
+    go true e again = (h i (omega arith) (omega arith) e, again)
+    go false e again = again
+
+those_rising : (f : ℕ → Bool) (n i : ℕ) → Rising (those f n i)
+unfolding those
+those_rising f zero i = tt
+those_rising f (suc n) i = go (f i) (those_rising f n (suc i))
+  where
+    go : (c : Bool) → Rising (those f n (suc i)) → Rising (elim c [ true ↦ i ∷ those f n (suc i) | false ↦ those f n (suc i) ])
+    go true again = (those_each f (λ k. i < k) n (suc i) (λ t l m e. omega arith), again)
+    go false again = again
+
 -- What a loop over targets keeps: classes are known, sure as long as no slot was written, and the targets that are left are not listed.
-module _ (n accepting : ℕ) (lowered others : List ℕ) (sides : Sides) where
-  abbrev pub TargetsReady : List ℕ → ℕ → ℕ → Type 0
-  TargetsReady work count rest = (t : ℕ) → bit rest t ≡ true → TargetReady work count accepting lowered others sides (eqb count n) t
+module _ (n : ℕ) (sides : Sides) where
+  abbrev pub TargetLeft : List ℕ → ℕ → ℕ → Type 0
+  TargetLeft work count t = (t < max_states) × TargetReady work count sides (eqb count n) t
 
-  pub targets_ready : (work : List ℕ) (targets : ℕ) → SidesReady work n accepting targets lowered others sides
-      → TargetsReady work n targets
-  targets_ready work targets S t h = go (bit accepting t) refl (S.unlisted t h)
+  abbrev pub TargetsReady : List ℕ → ℕ → List ℕ → Type 0
+  TargetsReady work count rest = Each (TargetLeft work count) rest × Rising rest
+
+  pub targets_ready : (work : List ℕ) (targets : ℕ) → SidesReady work n targets sides → TargetsReady work n (those (bit targets) max_states 0)
+  targets_ready work targets S =
+      (those_each (bit targets) (TargetLeft work n) max_states 0 (λ t l m h. (m, go t h (bit sides.accepting t) refl (S.unlisted t h))), those_rising (bit targets) max_states 0)
     where
-      go : (b : Bool) → bit accepting t ≡ b → listed_with work (cond b lowered others) n t ≡ false
-          → SideReady work n t (cond b lowered others) (cond b sides.lowkey sides.otherkey) (cond b sides.lowclass sides.otherclass)
-          (eqb n n)
-      go true a u = record { keyed = S.low; known = record { where_sure = λ e. S.low_class t h a; where_some = λ s e. S.low_class t h a }; unlisted = u }
-      go false a u =
-          record { keyed = S.other; known = record { where_sure = λ e. S.other_class t h a; where_some = λ s e. S.other_class t h a }; unlisted = u }
+      go : (t : ℕ) → bit targets t ≡ true → (b : Bool) → bit sides.accepting t ≡ b
+          → listed_with work (cond b sides.low.counters.now sides.other.counters.now) n t ≡ false
+          → SideReady work n t (cond b sides.low sides.other) (eqb n n)
+      go t h true a u = record { known = record { where_sure = λ e. S.low_class t h a; where_some = λ s e. S.low_class t h a }; unlisted = u }
+      go t h false a u = record { known = record { where_sure = λ e. S.other_class t h a; where_some = λ s e. S.other_class t h a }; unlisted = u }
 
-  module _ (work : List ℕ) (count rest : ℕ) (R : TargetsReady work count rest) where
-    -- target t has taken a slot, and is left no longer
-    pub targets_kept : (t rest' m : ℕ) (work' : List ℕ) → n ≤ count → ((k : ℕ) → bit rest' k ≡ (bit rest k && not (eqb t k)))
-        → Grows work count work' (Going m) → Takes count (vertex_of t (side_of accepting lowered others t)) work' (Going m)
-        → TargetsReady work' m rest'
-    targets_kept t rest' m work' l less G K k h =
-        let r = R k (left_too k h).0 in
-        record {
-          keyed = r.keyed;
-          known =
-              known_kept work work' count m v G K (side_of accepting sides.lowclass sides.otherclass k) n (eqb count n)
-              (side_of accepting lowered others k) l r.known;
-          unlisted = unlisted_kept work work' count m v G K (side_of accepting lowered others k) k (left_too k h).1 r.unlisted;
-        }
-      where
-        v : Vertex
-        v = vertex_of t (side_of accepting lowered others t)
-
-        both : (x y : Bool) → (x && not y) ≡ true → (x ≡ true) × (y ≡ false)
-        both true true e = absurd (true≢false (sym e))
-        both true false e = (refl, refl)
-        both false y e = absurd (true≢false (sym e))
-
-        left_too : (k : ℕ) → bit rest' k ≡ true → (bit rest k ≡ true) × (eqb t k ≡ false)
-        left_too k h = both (bit rest k) (eqb t k) (sym (less k) ∙ h)
+  -- target t has taken a slot, and is left no longer
+  pub targets_kept : (work : List ℕ) (count t : ℕ) (rest : List ℕ) (m : ℕ) (work' : List ℕ) → TargetsReady work count (t ∷ rest) → n ≤ count
+      → Grows work count work' (Ok m) → Takes count (vertex_of t (counters_to sides t)) work' (Ok m)
+      → TargetsReady work' m rest
+  targets_kept work count t rest m work' R l G K =
+      (each_both (TargetLeft work count) (λ k. t < k) (TargetLeft work' m) kept rest R.0.1 R.1.0, R.1.1)
+    where
+      kept : (k : ℕ) → TargetLeft work count k → t < k → TargetLeft work' m k
+      kept k h d =
+          let v = vertex_of t (counters_to sides t) in
+          let side = side_of sides.accepting sides.low sides.other k in (
+            h.0,
+            record {
+              known = known_kept work work' count m v G K side.class n (eqb count n) side.counters.now l h.1.known;
+              unlisted = unlisted_kept work work' count m v G K side.counters.now k (ne_eqb t k (λ e. omega arith)) h.1.unlisted;
+            },
+          )
 
 -- The walk.
 
--- the successors at the targets of a word
-abbrev pub edges_of : ℕ → ℕ → List ℕ → List ℕ → ℕ → List (ℕ × Vertex)
-edges_of letter accepting lowered others w = map (λ t. (letter, vertex_of t (side_of accepting lowered others t))) (those (bit w) max_states 0)
+-- the successors at targets, found by an edge with this letter
+abbrev pub edges_at : ℕ → Sides → List ℕ → List (ℕ × Vertex)
+edges_at letter sides ts = map (λ t. (letter, vertex_of t (counters_to sides t))) ts
 
-module _ (letter accepting : ℕ) (lowered others : List ℕ) (p : ℕ) (before : List ℕ) (n targets : ℕ) where
+-- the successors at the targets of a word
+abbrev pub edges_of : ℕ → Sides → ℕ → List (ℕ × Vertex)
+edges_of letter sides w = edges_at letter sides (those (bit w) max_states 0)
+
+module _ (letter : ℕ) (sides : Sides) (p : ℕ) (before : List ℕ) (n targets : ℕ) where
   -- the targets that are left, from the list that work represents, make the walk that all targets make of the list that `before` shows
-  abbrev pub TargetsToGo : List ℕ → ℕ → ℕ → Type 0
+  abbrev pub TargetsToGo : List ℕ → ℕ → List ℕ → Type 0
   TargetsToGo work m rest =
-      (A B : Automaton) (b : ℕ) (start : List ℕ) (ns : List (Node Vertex)) → Represents before (Going n) start (going ns)
-      → FoldLoops A B b p work m start (edges_of letter accepting lowered others rest)
-      (discover_all (lag_graph A B b) (below (slot_count (length start))) p (going ns) (edges_of letter accepting lowered others targets))
+      (A B : Automaton) (b : ℕ) (start : List ℕ) (ns : List (Node Vertex)) → Represents before (Ok n) start (going ns)
+      → FoldLoops A B b p work m start (edges_at letter sides rest)
+      (discover_all (lag_graph A B b) (below (slot_count (length start))) p (going ns) (edges_of letter sides targets))
 
   -- the answer r and the work buffer are those of all targets
-  abbrev pub TargetsDone : List ℕ → Walked → Type 0
+  abbrev pub TargetsDone : List ℕ → Result ℕ Stop → Type 0
   TargetsDone work r =
       (A B : Automaton) (b : ℕ) → Becomes before n work r
-      (λ S w. discover_all (lag_graph A B b) (below S) p w (edges_of letter accepting lowered others targets))
+      (λ S w. discover_all (lag_graph A B b) (below S) p w (edges_of letter sides targets))
 
-  module _ (work : List ℕ) (m rest : ℕ) (O : TargetsToGo work m rest) where
-    pub targets_end : those (bit rest) max_states 0 ≡ [] → TargetsDone work (Going m)
+  module _ (work : List ℕ) (m : ℕ) (rest : List ℕ) (O : TargetsToGo work m rest) where
+    pub targets_end : rest ≡ [] → TargetsDone work (Ok m)
     targets_end e A B b start ns S =
-        onward_end A B b p work m start (edges_of letter accepting lowered others rest) _ (O A B b start ns S)
-        (ap (map (λ t. (letter, vertex_of t (side_of accepting lowered others t)))) e)
+        onward_end A B b p work m start (edges_at letter sides rest) _ (O A B b start ns S) (ap (edges_at letter sides) e)
 
-    module _ (t rest' : ℕ) (first : those (bit rest) max_states 0 ≡ t ∷ those (bit rest') max_states 0) (work' : List ℕ) (r : Walked)
+    module _ (t : ℕ) (rest' : List ℕ) (first : rest ≡ t ∷ rest') (work' : List ℕ) (r : Result ℕ Stop)
         (seen : (A B : Automaton) (b : ℕ)
-        → Becomes work m work' r (λ S w. discover (lag_graph A B b) (below S) p w (letter, vertex_of t (side_of accepting lowered others t)))) where
-      edges_first : edges_of letter accepting lowered others rest
-          ≡ ((letter, vertex_of t (side_of accepting lowered others t)) ∷ []) ++ edges_of letter accepting lowered others rest'
-      edges_first = ap (map (λ t. (letter, vertex_of t (side_of accepting lowered others t)))) first
+        → Becomes work m work' r (λ S w. discover (lag_graph A B b) (below S) p w (letter, vertex_of t (counters_to sides t)))) where
+      pub targets_stop : (s : Stop) → r ≡ Err s → TargetsDone work' (Err s)
+      targets_stop s e A B b start ns S =
+          onward_stop A B b p work m work' r start ((letter, vertex_of t (counters_to sides t)) ∷ [])
+          (edges_at letter sides rest') (edges_at letter sides rest) _ (O A B b start ns S) (ap (edges_at letter sides) first)
+          (seen A B b) s e
 
-      pub targets_stop : EndsWalk r → TargetsDone work' r
-      targets_stop k A B b start ns S =
-          onward_stop A B b p work m work' r start ((letter, vertex_of t (side_of accepting lowered others t)) ∷ [])
-          (edges_of letter accepting lowered others rest') (edges_of letter accepting lowered others rest) _ (O A B b start ns S) edges_first
-          (seen A B b) k
-
-      pub targets_next : (x : ℕ) → r ≡ Going x → TargetsToGo work' x rest'
+      pub targets_next : (x : ℕ) → r ≡ Ok x → TargetsToGo work' x rest'
       targets_next x q A B b start ns S =
-          onward_next A B b p work m work' r start ((letter, vertex_of t (side_of accepting lowered others t)) ∷ [])
-          (edges_of letter accepting lowered others rest') (edges_of letter accepting lowered others rest) _ (O A B b start ns S) edges_first
+          onward_next A B b p work m work' r start ((letter, vertex_of t (counters_to sides t)) ∷ [])
+          (edges_at letter sides rest') (edges_at letter sides rest) _ (O A B b start ns S) (ap (edges_at letter sides) first)
           (seen A B b) x q
 
--- Targets that are listed may be left out.
-module _ (work : List ℕ) (n letter accepting : ℕ) (lowered others : List ℕ) (p targets rest : ℕ)
-    (left : (t : ℕ) → t < max_states → bit rest t ≡ (bit targets t && not (listed_with work (side_of accepting lowered others t) n t))) where
-  abbrev successor_at : ℕ → ℕ × Vertex
-  successor_at t = (letter, vertex_of t (side_of accepting lowered others t))
-
-  abbrev unlisted_target : ℕ → Bool
-  unlisted_target t = bit targets t && not (listed_with work (side_of accepting lowered others t) n t)
-
-  apart : (t u : ℕ) → u < t → same_vertex (successor_at t).1 (successor_at u).1 ≡ false
-  apart t u l = left_differs (successor_at t).1 (successor_at u).1 (λ e. absurd (omega arith))
-
-  same_rest : those (bit rest) max_states 0 ≡ those unlisted_target max_states 0
-  same_rest = those_same (bit rest) unlisted_target max_states 0 (λ t l h. left t (omega arith))
-
-  pub listed_left_out : (A B : Automaton) (b : ℕ) (work' : List ℕ) (r : Walked)
-      → Becomes work n work' r (λ S w. discover_all (lag_graph A B b) (below S) p w (edges_of letter accepting lowered others rest))
-      → Becomes work n work' r (λ S w. discover_all (lag_graph A B b) (below S) p w (edges_of letter accepting lowered others targets))
-  listed_left_out A B b work' r made start ns S =
-      subst (λ (w : Walk Vertex). Represents work' r start w)
-      (ap (λ (ts : List ℕ). discover_all (lag_graph A B b) (below (slot_count (length start))) p (going ns) (map successor_at ts)) same_rest
-      ∙ sym (discover_unlisted (lag_graph A B b) (below (slot_count (length start))) p successor_at apart (bit targets) unlisted_target max_states 0 ns
-      (λ t l. ap (λ (c : Bool). bit targets t && not c) (sym (listed_represented A B b work n start ns S (successor_at t).1)))))
-      (made start ns S)
+pub states_none : (w : ℕ) → w ≡ 0 → those (bit w) max_states 0 ≡ []
+unfolding those
+states_none w e = ap (λ (x : ℕ). those (bit x) max_states 0) e ∙ none max_states 0
+  where
+    none : (n i : ℕ) → those (bit 0) n i ≡ []
+    none zero i = refl
+    none (suc n) i = ap (λ (c : Bool). elim c [ true ↦ i ∷ those (bit 0) n (suc i) | false ↦ those (bit 0) n (suc i) ]) (bit_zero i) ∙ none n (suc i)

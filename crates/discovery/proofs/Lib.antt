@@ -1,5 +1,4 @@
--- Laws of the represented walk, of the loops that go on with it, and of the states of a word taken out one after another.
-pub mod LeastStates
+-- Laws of the represented walk, and of the loops that go on with it.
 pub mod RepresentedSlots
 pub mod FinalVertices
 pub mod FoldLoops

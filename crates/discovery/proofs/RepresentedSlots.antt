@@ -22,8 +22,10 @@ use Rattle.classes.specs.Classes.{listed_with, Classes}
 use Rattle.slots.specs.Bytes.{with_slot, vertex_at, letter_at, parent_at}
 use Rattle.slots.proofs.SlotLayout.{slot_fits, slot_long, vertex_read, letter_read, parent_read, slot_passed, with_slot_long, with_slot_vertex, with_slot_below}
 use Rattle.classes.proofs.ListedStates.{listed_with_iff}
-use Rattle.discovery.specs.declared.Walked.{Walked}
-use Rattle.discovery.specs.declared.Walked.TheVariants.{Going, Ended, Full}
+use Rattle.std.specs.Prelude.{Result, Ok, Err}
+use Rattle.classes.specs.declared.Index.{Index}
+use Rattle.discovery.specs.declared.Stop.{Stop}
+use Rattle.discovery.specs.declared.Stop.TheVariants.{Final, Full}
 use Rattle.graph.specs.Discovery.{Node, Walk, going, nodes_of, node, below, listed, discover, at}
 use Rattle.graph.specs.LagGraph.{lag_graph}
 use Rattle.graph.specs.Walks.{slots_of, work_after}
@@ -51,7 +53,7 @@ wide_more (m ∷ ns) n w l = (w.0, wide_more ns n w.1 l)
 slots_fit : (k len : ℕ) → k ≤ slot_count len → slot_size * k ≤ len
 slots_fit k len h = omega arith
 
-module _ (work : List ℕ) (r : Walked) (start : List ℕ) (w : Walk Vertex) (S : Represents work r start w) where
+module _ (work : List ℕ) (r : Result ℕ Stop) (start : List ℕ) (w : Walk Vertex) (S : Represents work r start w) where
   pub represented_length : length work ≡ length start
   unfolding work_after
   represented_length =
@@ -77,7 +79,7 @@ with_slot_bytes start ns m w =
     ∙ ap (λ (x : List ℕ). x ++ drop (slot_size * length (ns ++ m ∷ [])) start) (sym (slots_more ns m))
 
 -- before anything is discovered
-pub represented_none : (work : List ℕ) → Represents work (Going 0) work (going [])
+pub represented_none : (work : List ℕ) → Represents work (Ok 0) work (going [])
 unfolding work_after slots_of flat_map
 represented_none work = record { answer = refl; bytes = refl; wide = tt; room = omega arith }
 
@@ -104,7 +106,7 @@ module _ (A B : Automaton) (b : ℕ) where
       (omega arith))
 
   -- each slot holds its node
-  pub slot_represented : (work : List ℕ) (r : Walked) (start : List ℕ) (w : Walk Vertex) → Represents work r start w → (i : ℕ) → i < length (nodes_of w)
+  pub slot_represented : (work : List ℕ) (r : Result ℕ Stop) (start : List ℕ) (w : Walk Vertex) → Represents work r start w → (i : ℕ) → i < length (nodes_of w)
       → (vertex_at work i ≡ (at (lag_graph A B b) (nodes_of w) i).vertex) × (letter_at work i ≡ (at (lag_graph A B b) (nodes_of w) i).letter)
       × (parent_at work i ≡ (at (lag_graph A B b) (nodes_of w) i).parent)
   unfolding work_after
@@ -124,7 +126,7 @@ module _ (A B : Automaton) (b : ℕ) where
   not_listed v (n ∷ ns) h =
       ap₂ (λ (x y : Bool). x || y) (h 0 (omega arith)) (not_listed v ns (λ i l. h (suc i) (omega arith)))
 
-  module _ (work : List ℕ) (n : ℕ) (start : List ℕ) (ns : List (Node Vertex)) (S : Represents work (Going n) start (going ns)) where
+  module _ (work : List ℕ) (n : ℕ) (start : List ℕ) (ns : List (Node Vertex)) (S : Represents work (Ok n) start (going ns)) where
     count : n ≡ length ns
     count = let e = S.answer in cc
 
@@ -138,18 +140,18 @@ module _ (A B : Automaton) (b : ℕ) where
         go : (c : Bool) → listed_with work v.counters n v.left ≡ c → listed (lag_graph A B b) v ns ≡ c
         go true e =
             let x = some_below held n (is_true (some held n 0) (sym (listed_with_iff work v n) ∙ e)) in
-            let d = slot_represented work (Going n) start (going ns) S x.0 (omega (arith, x.1, count)) in
+            let d = slot_represented work (Ok n) start (going ns) S x.0 (omega (arith, x.1, count)) in
             T_true (listed (lag_graph A B b) v ns) (listed_at v ns x.0 (omega (arith, x.1, count)) (rw d.0 at x.2))
         go false e =
             not_listed v ns
             (λ i h.
-            let d = slot_represented work (Going n) start (going ns) S i h in
+            let d = slot_represented work (Ok n) start (going ns) S i h in
             rw d.0 at
             (not_T_false (held i)
             (λ t. clash {X = ⊥} (T_true (some held n 0) (some_at held n i (omega (arith, count)) t)) (sym (listed_with_iff work v n) ∙ e))))
 
   -- one successor that is not listed, by what the tests found
-  module _ (work : List ℕ) (n : ℕ) (start : List ℕ) (ns : List (Node Vertex)) (S : Represents work (Going n) start (going ns))
+  module _ (work : List ℕ) (n : ℕ) (start : List ℕ) (ns : List (Node Vertex)) (S : Represents work (Ok n) start (going ns))
       (p a : ℕ) (v : Vertex) (unlisted : listed_with work v.counters n v.left ≡ false) where
     abbrev after : Walk Vertex
     after = discover (lag_graph A B b) (below (slot_count (length start))) p (going ns) (a, v)
@@ -160,36 +162,36 @@ module _ (A B : Automaton) (b : ℕ) where
     none_listed : listed (lag_graph A B b) v ns ≡ false
     none_listed = listed_represented work n start ns S v ∙ unlisted
 
-    pub discover_final : all_zero v.counters ≡ true → Represents work (Ended n a p) start after
+    pub discover_final : all_zero v.counters ≡ true → Represents work (Err (Final n a p)) start after
     unfolding work_after
     discover_final z =
         rw (none_listed, z)
-        (record { answer = ap (λ (k : ℕ). Ended k a p) places; bytes = S.bytes; wide = S.wide; room = S.room })
+        (record { answer = ap (λ (k : ℕ). Err (Final k a p)) places; bytes = S.bytes; wide = S.wide; room = S.room })
 
     pub discover_full : all_zero v.counters ≡ false → slot_count (length work) ≤ n
-        → Represents work (Full n) start after
+        → Represents work (Err (Full n)) start after
     unfolding work_after
     discover_full z h =
-        let l = represented_length work (Going n) start (going ns) S in
+        let l = represented_length work (Ok n) start (going ns) S in
         let k = S.room in
         let q : slot_count (length work) ≡ slot_count (length start) = ap slot_count l in
         let s : n ≡ slot_count (length start) = omega (arith, places) in
         rw (none_listed, z, le-ltb (length ns) (slot_count (length start)) (omega (arith, places)))
-        (record { answer = ap Full s; bytes = S.bytes; wide = S.wide; room = S.room })
+        (record { answer = ap (λ (k : ℕ). Err (Full k)) s; bytes = S.bytes; wide = S.wide; room = S.room })
 
     pub discover_with_slot : all_zero v.counters ≡ false → n < slot_count (length work)
-        → length v.counters ≡ max_states → Represents (with_slot work n v a p) (Going (n + 1)) start after
+        → length v.counters ≡ max_states → Represents (with_slot work n v a p) (Ok (n + 1)) start after
     discover_with_slot z h wide =
         rw (none_listed, z, lt-ltb (length ns) (slot_count (length start)) (omega (arith, places, slots)))
         (record {
-          answer = ap Going (omega (arith, places, length-append ns (node (a, v) p ∷ [])));
+          answer = ap Ok (omega (arith, places, length-append ns (node (a, v) p ∷ [])));
           bytes = ap₂ (λ (x : List ℕ) (k : ℕ). with_slot x k v a p) S.bytes places ∙ with_slot_bytes start ns (node (a, v) p) S.wide;
           wide = wide_more ns (node (a, v) p) S.wide wide;
           room = omega (arith, places, slots, length-append ns (node (a, v) p ∷ []));
         })
       where
         slots : slot_count (length work) ≡ slot_count (length start)
-        slots = ap slot_count (represented_length work (Going n) start (going ns) S)
+        slots = ap slot_count (represented_length work (Ok n) start (going ns) S)
 
 -- a slot written: what the next successor needs is there again, and the slots below are as they were
 module _ (work : List ℕ) (n : ℕ) (v : Vertex) (a p : ℕ) (free : n < slot_count (length work)) (wide : length v.counters ≡ max_states) where
@@ -204,23 +206,23 @@ module _ (work : List ℕ) (n : ℕ) (v : Vertex) (a p : ℕ) (free : n < slot_c
       (λ q. subst P (sym (with_slot_below work n v a p fits s wide q)) (h s q))
       (eq-or-lt_of_le {n = s} {m = n} (omega arith))
 
-  pub ready_with_slot : (heads nexts listed heads' nexts' listed' : List ℕ) → Ready work heads nexts listed n → v.left < max_states
-      → all_zero v.counters ≡ false → Classes (with_slot work n v a p) heads' nexts' listed' (n + 1)
-      → Ready (with_slot work n v a p) heads' nexts' listed' (n + 1)
-  ready_with_slot heads nexts listed heads' nexts' listed' R l z I =
+  pub ready_with_slot : (index index' : Index) → Ready work index n → v.left < max_states
+      → all_zero v.counters ≡ false → Classes (with_slot work n v a p) index' (n + 1)
+      → Ready (with_slot work n v a p) index' (n + 1)
+  ready_with_slot index index' R l z I =
       record {
         room = let e = ap slot_count (with_slot_long work n v a p fits wide) in omega arith;
-        index = I;
+        index_is = I;
         lefts = each_below (λ u. u.left < max_states) R.lefts l;
         alive = each_below (λ u. all_zero u.counters ≡ false) R.alive z;
       }
 
-  pub grows_with_slot : Grows work n (with_slot work n v a p) (Going (n + 1))
+  pub grows_with_slot : Grows work n (with_slot work n v a p) (Ok (n + 1))
   grows_with_slot = record { slots = λ s l. with_slot_below work n v a p fits s wide l; no_fewer = omega arith }
 
   pub taken_slot : vertex_at (with_slot work n v a p) n ≡ v
   taken_slot = with_slot_vertex work n v a p fits wide
 
-pub ready_none : (work heads nexts listed : List ℕ) → Classes work heads nexts listed 0 → Ready work heads nexts listed 0
-ready_none work heads nexts listed I =
-    record { room = omega arith; index = I; lefts = λ s h. absurd (omega arith); alive = λ s h. absurd (omega arith) }
+pub ready_none : (work : List ℕ) (index : Index) → Classes work index 0 → Ready work index 0
+ready_none work index I =
+    record { room = omega arith; index_is = I; lefts = λ s h. absurd (omega arith); alive = λ s h. absurd (omega arith) }

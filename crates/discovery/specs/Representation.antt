@@ -9,26 +9,29 @@
 --   Grows work n work' r       the slots below n are in work' as in work, and the answer r lists no fewer than n
 --   ClassKnown class sure c    what is known of the class c: it is `class` where that is not 0, or where it is sure
 --   side_of                     what a left target t has of two sides: that of the one where t accepts, and else that of the other
---   SideReady                  counters have this key, and this class as far as it is known, and the left target t is not listed with them
---   TargetReady, SidesReady    the same of the side of t; keys and classes of both sides, and that none of the targets is listed
--- Shown by `listed_represented` and `listed_left_out`. Assumes nothing.
-use Rattle.std.specs.Prelude.{◌≡◌, Bool, true, false, cond, List, [], ◌∷◌, ℕ, suc, ◌+◌, ◌≤◌, ◌<◌, length}
+--   counters_to                 the counters of the side of t
+--   SideReady                  the class of the side's counters is known, and the left target t is not listed with them
+--   TargetReady, SidesReady    the same of the side of t; classes of both sides, and that none of the targets is listed
+-- Shown by `listed_represented` and `discover_with_slot`. Assumes nothing.
+use Rattle.std.specs.Prelude.{◌≡◌, Bool, true, false, cond, List, [], ◌∷◌, ℕ, suc, ◌+◌, ◌≤◌, ◌<◌, length, Result, Ok, Err, IfOk}
 use Rattle.automaton.specs.Automata.{max_states}
 use Rattle.automaton.specs.Sets.{bit}
 use Rattle.slots.specs.declared.Vertex.{Vertex}
 use Rattle.slots.specs.Slots.{slot_count, all_zero}
 use Rattle.slots.specs.Bytes.{vertex_at}
-use Rattle.classes.specs.Classes.{class_of, listed_with, key_of, keys, Classes}
+use Rattle.classes.specs.Classes.{class_of, listed_with, Classes}
+use Rattle.classes.specs.declared.Index.{Index}
 use Rattle.graph.specs.Discovery.{Node, Walk, going, ended, full, nodes_of}
 use Rattle.graph.specs.Walks.{work_after}
-use Rattle.discovery.specs.declared.Walked.{Walked}
-use Rattle.discovery.specs.declared.Walked.TheVariants.{Going, Ended, Full}
-use Rattle.discovery.specs.declared.Sides.{Sides}
+use Rattle.discovery.specs.declared.Stop.{Stop}
+use Rattle.discovery.specs.declared.Stop.TheVariants.{Final, Full}
+use Rattle.discovery.specs.declared.sides.Side.{Side}
+use Rattle.discovery.specs.declared.sides.Sides.{Sides}
 
-abbrev pub walked_of : ℕ → Walk Vertex → Walked
-walked_of S (going ns) = Going (length ns)
-walked_of S (ended ns n) = Ended (length ns) n.letter n.parent
-walked_of S (full ns) = Full S
+abbrev pub walked_of : ℕ → Walk Vertex → Result ℕ Stop
+walked_of S (going ns) = Ok (length ns)
+walked_of S (ended ns n) = Err (Final (length ns) n.letter n.parent)
+walked_of S (full ns) = Err (Full S)
 
 abbrev pub vertex_of : ℕ → List ℕ → Vertex
 vertex_of l cs = record { left = l; counters = cs }
@@ -38,45 +41,30 @@ abbrev pub Wide : List (Node Vertex) → Type 0
 Wide [] = Unit {0}
 Wide (n ∷ ns) = (length n.vertex.counters ≡ max_states) × Wide ns
 
-pub record Represents (work : List ℕ) (r : Walked) (start : List ℕ) (w : Walk Vertex) : Type 0 where
+pub record Represents (work : List ℕ) (r : Result ℕ Stop) (start : List ℕ) (w : Walk Vertex) : Type 0 where
   pub answer : r ≡ walked_of (slot_count (length start)) w
   pub bytes : work ≡ work_after start w
   pub wide : Wide (nodes_of w)
   pub room : length (nodes_of w) ≤ slot_count (length start)
 
 -- `step` takes the number of slots
-abbrev pub Becomes : List ℕ → ℕ → List ℕ → Walked → (ℕ → Walk Vertex → Walk Vertex) → Type 0
+abbrev pub Becomes : List ℕ → ℕ → List ℕ → Result ℕ Stop → (ℕ → Walk Vertex → Walk Vertex) → Type 0
 Becomes before n after r step =
-    (start : List ℕ) (ns : List (Node Vertex)) → Represents before (Going n) start (going ns)
+    (start : List ℕ) (ns : List (Node Vertex)) → Represents before (Ok n) start (going ns)
     → Represents after r start (step (slot_count (length start)) (going ns))
 
-pub record Ready (work heads nexts listed : List ℕ) (n : ℕ) : Type 0 where
+pub record Ready (work : List ℕ) (index : Index) (n : ℕ) : Type 0 where
   pub room : n ≤ slot_count (length work)
-  pub index : Classes work heads nexts listed n
+  pub index_is : Classes work index n
   pub lefts : (s : ℕ) → s < n → (vertex_at work s).left < max_states
   pub alive : (s : ℕ) → s < n → all_zero (vertex_at work s).counters ≡ false
 
--- the list goes on: what the next successor needs is there
-abbrev pub ReadyAfter : Walked → List ℕ → List ℕ → List ℕ → List ℕ → Type 0
-ReadyAfter (Going n) work heads nexts listed = Ready work heads nexts listed n
-ReadyAfter (Ended i a p) work heads nexts listed = Unit {0}
-ReadyAfter (Full n) work heads nexts listed = Unit {0}
+abbrev pub Takes : ℕ → Vertex → List ℕ → Result ℕ Stop → Type 0
+Takes n v work' r = IfOk r (λ m. (m ≡ n + 1) × (vertex_at work' n ≡ v))
 
--- an answer that goes on lists v besides
-abbrev pub Takes : ℕ → Vertex → List ℕ → Walked → Type 0
-Takes n v work' (Going m) = (m ≡ n + 1) × (vertex_at work' n ≡ v)
-Takes n v work' (Ended i a p) = Unit {0}
-Takes n v work' (Full m) = Unit {0}
-
--- an answer that goes on lists no fewer
-abbrev pub NoFewer : ℕ → Walked → Type 0
-NoFewer n (Going m) = n ≤ m
-NoFewer n (Ended i a p) = Unit {0}
-NoFewer n (Full m) = Unit {0}
-
-pub record Grows (work : List ℕ) (n : ℕ) (work' : List ℕ) (r : Walked) : Type 0 where
+pub record Grows (work : List ℕ) (n : ℕ) (work' : List ℕ) (r : Result ℕ Stop) : Type 0 where
   pub slots : (s : ℕ) → s < n → vertex_at work' s ≡ vertex_at work s
-  pub no_fewer : NoFewer n r
+  pub no_fewer : IfOk r (λ m. n ≤ m)
 
 pub record ClassKnown (class : ℕ) (sure : Bool) (c : ℕ) : Type 0 where
   pub where_sure : sure ≡ true → class ≡ c
@@ -86,26 +74,18 @@ pub record ClassKnown (class : ℕ) (sure : Bool) (c : ℕ) : Type 0 where
 abbrev pub side_of : {A : Type 0} → ℕ → A → A → ℕ → A
 side_of accepting low other t = cond (bit accepting t) low other
 
--- counters with their key
-pub record Keyed (cs : List ℕ) (key : ℕ) : Type 0 where
-  pub long : length cs ≡ max_states
-  pub key_is : key ≡ key_of cs
-  pub key_below : key < keys
+abbrev pub counters_to : Sides → ℕ → List ℕ
+counters_to sides t = side_of sides.accepting sides.low.counters.now sides.other.counters.now t
 
-pub record SideReady (work : List ℕ) (n t : ℕ) (cs : List ℕ) (key class : ℕ) (sure : Bool) : Type 0 where
-  pub keyed : Keyed cs key
-  pub known : ClassKnown class sure (class_of work cs n)
-  pub unlisted : listed_with work cs n t ≡ false
+pub record SideReady (work : List ℕ) (n t : ℕ) (side : Side) (sure : Bool) : Type 0 where
+  pub known : ClassKnown side.class sure (class_of work side.counters.now n)
+  pub unlisted : listed_with work side.counters.now n t ≡ false
 
 -- the side of the left target t
-abbrev pub TargetReady : List ℕ → ℕ → ℕ → List ℕ → List ℕ → Sides → Bool → ℕ → Type 0
-TargetReady work n accepting lowered others sides sure t =
-    SideReady work n t (side_of accepting lowered others t) (side_of accepting sides.lowkey sides.otherkey t)
-    (side_of accepting sides.lowclass sides.otherclass t) sure
+abbrev pub TargetReady : List ℕ → ℕ → Sides → Bool → ℕ → Type 0
+TargetReady work n sides sure t = SideReady work n t (side_of sides.accepting sides.low sides.other t) sure
 
-pub record SidesReady (work : List ℕ) (n accepting targets : ℕ) (lowered others : List ℕ) (sides : Sides) : Type 0 where
-  pub low : Keyed lowered sides.lowkey
-  pub other : Keyed others sides.otherkey
-  pub low_class : (t : ℕ) → bit targets t ≡ true → bit accepting t ≡ true → sides.lowclass ≡ class_of work lowered n
-  pub other_class : (t : ℕ) → bit targets t ≡ true → bit accepting t ≡ false → sides.otherclass ≡ class_of work others n
-  pub unlisted : (t : ℕ) → bit targets t ≡ true → listed_with work (side_of accepting lowered others t) n t ≡ false
+pub record SidesReady (work : List ℕ) (n targets : ℕ) (sides : Sides) : Type 0 where
+  pub low_class : (t : ℕ) → bit targets t ≡ true → bit sides.accepting t ≡ true → sides.low.class ≡ class_of work sides.low.counters.now n
+  pub other_class : (t : ℕ) → bit targets t ≡ true → bit sides.accepting t ≡ false → sides.other.class ≡ class_of work sides.other.counters.now n
+  pub unlisted : (t : ℕ) → bit targets t ≡ true → listed_with work (counters_to sides t) n t ≡ false

@@ -2,211 +2,138 @@
 // counters of a class are known as a set, so that only targets that are not listed are gone through.
 #![tactic(auto)]
 
-ghost use Rattle.std.specs.Prelude.{◌≡◌, true, false, ◌&&◌, not, map, ℕ, ◌<◌, ◌≤◌, eqb, length};
+ghost use Rattle.std.specs.Prelude.{◌≡◌, ◌&&◌, map, ℕ, ◌<◌, ◌≤◌, eqb, length, IfOk};
 ghost use Rattle.automaton.specs.declared.Automaton.{Automaton};
 ghost use Rattle.automaton.specs.Automata.{max_states};
-ghost use Rattle.automaton.specs.Ranges.{next_from, those};
+ghost use Rattle.automaton.specs.Ranges.{those};
 ghost use Rattle.automaton.specs.Sets.{bit};
-ghost use Rattle.slots.specs.Slots.{slot_count};
-ghost use Rattle.classes.specs.Classes.{class_of, key_of, keys, Chained};
+ghost use Rattle.slots.specs.Slots.{slot_count, all_zero};
+ghost use Rattle.classes.specs.Classes.{class_of, Chained};
 ghost use Rattle.graph.specs.Discovery.{below, discover as discovering, discover_all};
 ghost use Rattle.graph.specs.LagGraph.{lag_graph};
-ghost use Rattle.discovery.specs.Representation.{vertex_of, Becomes, Ready, ReadyAfter, Takes, Grows, ClassKnown, side_of, SideReady, TargetReady, SidesReady};
+ghost use Rattle.discovery.specs.Representation.{vertex_of, Becomes, Ready, Takes, Grows, ClassKnown, counters_to, SideReady, TargetReady, SidesReady};
 
-use automaton::MAX_STATES;
+mod edge;
+mod sides;
+
+use classes::Index;
+pub use edge::Edge;
+use relations::states_of;
+pub use sides::{Side, Sides};
 use slots::Vertex;
 
-// How the discovery list stands: no final vertex among the vertices listed, with their number; the place of the final vertex
-// that ends it, with the letter and the place of the parent by which it was found; a vertex found no slot, with the slots.
-#[derive(Clone, Copy)]
-pub enum Walked {
-    Going(usize),
-    Ended(usize, u8, usize),
+// Why a list ends: a final vertex, with its place, and the letter and the place of the parent by which it was found; or a vertex that found no
+// slot, with the number of slots.
+#[derive(Clone, Copy, Debug, PartialEq, Eq)]
+pub enum Stop {
+    Final {
+        place: usize,
+        letter: u8,
+        parent: usize,
+    },
     Full(usize),
 }
 
-// Keys and classes of the counters after a step: where the left target accepts, and where it does not.
-#[derive(Clone, Copy)]
-pub struct Sides {
-    pub lowkey: usize,
-    pub lowclass: usize,
-    pub otherkey: usize,
-    pub otherclass: usize,
-}
-
-// The least state of a set, found byte by byte; 32 where there is none.
-fn least(set: u32) -> usize
-    ensures { result ≡ next_from (bit set) max_states 0 }
-{
-    let mut b: usize = 0;
-    while b < 4 {
-        let m = automaton::least_member(((set >> (b * 8)) % 256) as u8);
-        if m < 8 {
-            return b * 8 + m;
-        }
-        b += 1;
-    }
-    MAX_STATES
-}
-
-// The set without a state that it has.
-fn without(set: u32, q: usize) -> u32
-    requires { (q < max_states) × (bit set q ≡ true) }
-    ensures { (k : ℕ) → bit result k ≡ (bit set k && not (eqb q k)) }
-{
-    set ^ relations::with_state(0, q)
-}
-
 // The class of the counters, which is looked up again unless it is known: one that is not 0 stays, and 0 is sure as long as no slot was written.
-fn class_now(
-    work: &[u8],
-    heads: &[u16],
-    nexts: &[u16],
-    n: usize,
-    counters: &[u8; 32],
-    key: usize,
-    class: usize,
-    sure: bool,
-) -> usize
-    requires { (n ≤ slot_count (length work.now)) × (key ≡ key_of counters.now) × (key < keys) × Chained work.now heads.now nexts.now n
-        × ClassKnown class sure (class_of work.now counters.now n) }
-    ensures { result ≡ class_of work.now counters.now n }
+fn class_now(work: &[u8], index: &Index, n: usize, side: Side, sure: bool) -> usize
+    requires { (n ≤ slot_count (length work.now)) × Chained work.now index.now n
+        × ClassKnown side.class sure (class_of work.now side.counters.now n) }
+    ensures { result ≡ class_of work.now side.entry.counters.now n }
 {
-    if sure | (class != 0) {
-        return class;
+    if sure | (side.class != 0) {
+        return side.class;
     }
-    classes::class_of(work, heads, nexts, n, *counters, key)
+    index.class_of(work, n, *side.counters, side.key)
 }
 
-// One successor of the vertex at place p that is not listed: it is final, takes the next slot, or finds none. Its counters have this key, and
-// this class where that is not 0 or sure.
+// Whether counters of this class make a final vertex: they are all 0, and no slot has them, since no slot holds a final vertex.
+fn is_final(class: usize, counters: &[u8; 32]) -> bool
+    ensures { result ≡ (eqb class 0 && all_zero counters.now) }
+{
+    class == 0 && classes::all_zero(counters)
+}
+
+// One successor, found by an edge, that is not listed: it is final, takes the next slot, or finds none. The class of its side is its
+// counters' where that is not 0 or sure. The answer is the number of vertices listed.
 fn discover(
     work: &mut [u8],
-    heads: &mut [u16],
-    nexts: &mut [u16],
-    listed: &mut [u32],
+    index: &mut Index,
     n: usize,
-    p: usize,
-    letter: u8,
+    edge: Edge,
     left: u8,
-    counters: &[u8; 32],
-    key: usize,
-    class: usize,
+    side: Side,
     sure: bool,
-) -> Walked
-    requires { Ready work.old heads.old nexts.old listed.old n × (p < 65536) × (left < max_states)
-        × SideReady work.old n left counters.now key class sure }
+) -> Result<usize, Stop>
+    requires { Ready work.old index.old n × (left < max_states) × SideReady work.old n left side sure }
     ensures represents { (A B : Automaton) (b : ℕ) → Becomes work.old n work.new result
-        (λ S w. discovering (lag_graph A B b) (below S) p w (letter, vertex_of left counters.now)) }
-    ensures ready { ReadyAfter result work.new heads.new nexts.new listed.new }
+        (λ S w. discovering (lag_graph A B b) (below S) edge.parent w (edge.letter, vertex_of left side.entry.counters.now)) }
+    ensures ready { IfOk result (λ m. Ready work.new index.new m) }
     ensures grows { Grows work.old n work.new result }
-    ensures takes { Takes n (vertex_of left counters.now) work.new result }
+    ensures takes { Takes n (vertex_of left side.entry.counters.now) work.new result }
 {
-    let known = class_now(work, heads, nexts, n, counters, key, class, sure);
-    if known == 0 {
-        if classes::all_zero(counters) {
-            return Walked::Ended(n, letter, p);
-        }
+    let class = class_now(work, index, n, side, sure);
+    if is_final(class, side.counters) {
+        return Err(Stop::Final {
+            place: n,
+            letter: edge.letter,
+            parent: edge.parent,
+        });
     }
     if n < slots::slot_count(work.len()) {
-        let written = *counters;
         let v = Vertex {
             left,
-            counters: written,
+            counters: *side.counters,
         };
-        classes::append(work, heads, nexts, listed, n, v, letter, p, key, known);
-        return Walked::Going(n + 1);
+        index.append(work, n, v, edge.letter, edge.parent, side.key, class);
+        return Ok(n + 1);
     }
-    Walked::Full(n)
+    Err(Stop::Full(n))
 }
 
-// The successor of the vertex at place p at a left target that is not listed. Targets that accept have the counters `lowered`, the others have
-// `others`.
-fn discover_target<'a>(
+// The successor at a left target that is not listed, found by an edge. Its side is by whether it accepts.
+fn discover_target(
     work: &mut [u8],
-    heads: &mut [u16],
-    nexts: &mut [u16],
-    listed: &mut [u32],
+    index: &mut Index,
     n: usize,
-    p: usize,
-    letter: u8,
-    accepting: u32,
+    edge: Edge,
     t: usize,
-    lowered: &'a [u8; 32],
-    others: &'a [u8; 32],
     sides: Sides,
     sure: bool,
-) -> Walked
-    requires { Ready work.old heads.old nexts.old listed.old n × (p < 65536) × (t < max_states)
-        × TargetReady work.old n accepting lowered.now others.now sides sure t }
+) -> Result<usize, Stop>
+    requires { Ready work.old index.old n × (t < max_states) × TargetReady work.old n sides sure t }
     ensures represents { (A B : Automaton) (b : ℕ) → Becomes work.old n work.new result
-        (λ S w. discovering (lag_graph A B b) (below S) p w
-        (letter, vertex_of t (side_of accepting lowered.now others.now t))) }
-    ensures ready { ReadyAfter result work.new heads.new nexts.new listed.new }
+        (λ S w. discovering (lag_graph A B b) (below S) edge.parent w (edge.letter, vertex_of t (counters_to sides.entry t))) }
+    ensures ready { IfOk result (λ m. Ready work.new index.new m) }
     ensures grows { Grows work.old n work.new result }
-    ensures takes { Takes n (vertex_of t (side_of accepting lowered.now others.now t)) work.new result }
+    ensures takes { Takes n (vertex_of t (counters_to sides.entry t)) work.new result }
 {
-    let mut counters = others;
-    let mut key = sides.otherkey;
-    let mut class = sides.otherclass;
-    if relations::has(accepting, t) {
-        counters = lowered;
-        key = sides.lowkey;
-        class = sides.lowclass;
-    }
-    discover(
-        work, heads, nexts, listed, n, p, letter, t as u8, counters, key, class, sure,
-    )
+    let side = if relations::has(sides.accepting, t) {
+        sides.low
+    } else {
+        sides.other
+    };
+    discover(work, index, n, edge, t as u8, side, sure)
 }
 
-// The successors of the vertex at place p at these left targets, none of which is listed, lowest first. Targets that accept have the counters
-// `lowered`, the others have `others`.
-pub fn discover_targets<'a>(
+// The successors at these left targets, none of which is listed, lowest first, found by an edge. The answer is the number of vertices listed.
+pub fn discover_targets(
     work: &mut [u8],
-    heads: &mut [u16],
-    nexts: &mut [u16],
-    listed: &mut [u32],
+    index: &mut Index,
     n: usize,
-    p: usize,
-    letter: u8,
-    accepting: u32,
+    edge: Edge,
     targets: u32,
-    lowered: &'a [u8; 32],
-    others: &'a [u8; 32],
     sides: Sides,
-) -> Walked
-    requires { Ready work.old heads.old nexts.old listed.old n × (p < 65536)
-        × SidesReady work.old n accepting targets lowered.now others.now sides }
+) -> Result<usize, Stop>
+    requires { Ready work.old index.old n × SidesReady work.old n targets sides }
     ensures represents { (A B : Automaton) (b : ℕ) → Becomes work.old n work.new result
-        (λ S w. discover_all (lag_graph A B b) (below S) p w
-        (map (λ t. (letter, vertex_of t (side_of accepting lowered.now others.now t))) (those (bit targets) max_states 0))) }
-    ensures ready { ReadyAfter result work.new heads.new nexts.new listed.new }
+        (λ S w. discover_all (lag_graph A B b) (below S) edge.parent w
+        (map (λ t. (edge.letter, vertex_of t (counters_to sides.entry t))) (those (bit targets) max_states 0))) }
+    ensures ready { IfOk result (λ m. Ready work.new index.new m) }
     ensures grows { Grows work.old n work.new result }
 {
-    let mut rest = targets;
     let mut count = n;
-    while rest != 0 {
-        let t = least(rest);
-        rest = without(rest, t);
-        let seen = discover_target(
-            work,
-            heads,
-            nexts,
-            listed,
-            count,
-            p,
-            letter,
-            accepting,
-            t,
-            lowered,
-            others,
-            sides,
-            count == n,
-        );
-        let Walked::Going(m) = seen else {
-            return seen;
-        };
-        count = m;
+    for t in states_of(targets) {
+        count = discover_target(work, index, count, edge, t, sides, count == n)?;
     }
-    Walked::Going(count)
+    Ok(count)
 }

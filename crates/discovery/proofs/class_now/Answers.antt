@@ -18,6 +18,5 @@ known_class zero false c K e = clash (eq-eqb 0 0 refl) (flip (eqb 0 0) e)
     flip false q = refl
 known_class (suc s) false c K e = K.where_some s refl
 
-pub returns-then-sure-class : goal.returns-then-sure-class
-returns-then-sure-class c = let s = c in
-    known_class s.args.class s.args.sure _ s.requires.4 c.if-sure-class.true
+pub returns-then-sure-side : goal.returns-then-sure-side
+returns-then-sure-side c = known_class c.args.side.class c.args.sure _ c.requires.2 c.if-sure-side.true
