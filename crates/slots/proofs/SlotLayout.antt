@@ -4,12 +4,10 @@ use mathlib.Core.Path.{◌≡◌, sym, ◌∙◌, ap, ap₂}
 use mathlib.Core.List.{List, [], ◌∷◌, ◌++◌, append_assoc, append-nil}
 use Prim.Native.Nat.{ℕ, suc, ◌+◌, ◌-◌, ◌*◌, ◌/◌, ◌%◌, ◌≤◌, ◌<◌}
 use native.Mathlib.Nat.{add-zero}
-use native.Mathlib.Numerals.{add-one}
 use native.Mathlib.Omega.{arith}
 use borrow.Rule.Slice.PartMut.{mid_of, put_mid, post_of}
 use lib.ListN.{length, get_or, take, drop, set, length-append, length-take, length-drop, drop_of_length-le, get_or-append}
-use lib.Seq.{length-take-le, ext_get_or, get_or-take, get_or-drop, get_or-append-add, take_all, take_at, drop_at, drop-drop, take-suc}
-use lib.Seq.{take-suc-set, paste, length-paste, take-paste, drop-paste, sets, sets-eq}
+use lib.Seq.{length-take-le, ext_get_or, get_or-take, get_or-drop, get_or-append-add, take_all, take_at, drop_at, drop-drop}
 use Rattle.slots.specs.declared.Vertex.{Vertex}
 use Rattle.slots.specs.Slots.{slot_size, slot_count, slot_bytes}
 use Rattle.slots.specs.Bytes.{with_slot, vertex_at, letter_at, parent_at}
@@ -18,25 +16,18 @@ use Rattle.slots.specs.Bytes.{with_slot, vertex_at, letter_at, parent_at}
 abbrev pub tail_bytes : ℕ → ℕ → List ℕ
 tail_bytes a p = a ∷ p % 256 ∷ p / 256 ∷ 0 ∷ 0 ∷ 0 ∷ 0 ∷ []
 
--- after the loop over the counters and the seven stores that follow it
-pub slot_written : (d : List ℕ) (v : Vertex) (l : List ℕ) (a p : ℕ) → slot_size ≤ length d → length v.counters ≡ 32
-    → l ≡ paste (set d 0 v.left) 1 v.counters 32 → sets l 33 (tail_bytes a p) ≡ slot_bytes v a p ++ drop slot_size d
+-- after the left state and the two copies, of the counters and of the bytes behind them
+pub slot_written : (d : List ℕ) (v : Vertex) (a p : ℕ) → slot_size ≤ length d → length v.counters ≡ 32
+    → put_mid 33 7 (put_mid 1 32 (set d 0 v.left) v.counters) (tail_bytes a p) ≡ slot_bytes v a p ++ drop slot_size d
 unfolding slot_bytes
-slot_written [] v l a p h n e = absurd (omega arith)
-slot_written (y ∷ d) v l a p h n e =
-    let x : ℕ = v.left in
-    let cs : List ℕ = v.counters in
-    let t : List ℕ = tail_bytes a p in
-    let P : List ℕ = paste (x ∷ d) 1 cs 32 in
-    let m : length l ≡ length (y ∷ d) = ap length e ∙ length-paste (x ∷ d) 1 cs 32 (omega arith) (omega arith) in
-    let f : take 33 P ≡ x ∷ cs = take-paste (x ∷ d) 1 cs 32 (omega arith) (omega arith)
-    ∙ ap (λ (k : List ℕ). x ∷ k) (take_all 32 cs (omega arith)) in
-    let b : drop 40 P ≡ drop 40 (y ∷ d) = sym (drop-drop 7 33 P)
-    ∙ ap (λ (k : List ℕ). drop 7 k) (drop-paste (x ∷ d) 1 cs 32 (omega arith) (omega arith)) ∙ drop-drop 7 33 (x ∷ d) in
-    sets-eq t l 33 (omega arith)
-    ∙ ap (λ (k : List ℕ). (take 33 k ++ t) ++ drop 40 k) e
-    ∙ ap (λ (k : List ℕ). (k ++ t) ++ drop 40 P) f
-    ∙ ap (λ (k : List ℕ). ((x ∷ cs) ++ t) ++ k) b
+slot_written [] v a p h n = absurd (omega arith)
+slot_written (y ∷ d) v a p h n =
+    let front : List ℕ = v.left ∷ v.counters in
+    let rest : List ℕ = drop 32 d in
+    let long : length front ≡ 33 = omega arith in
+    ap₂ (λ (f r : List ℕ). f ++ (tail_bytes a p ++ drop 7 r)) (take_at front rest 33 long) (drop_at front rest 33 long)
+    ∙ ap (λ (r : List ℕ). front ++ (tail_bytes a p ++ r)) (drop-drop 7 32 d)
+    ∙ sym (append_assoc front (tail_bytes a p) (drop 39 d))
 
 -- what the slot writer says of the part that was lent from an offset on, said of the whole work buffer
 pub part_back : (work : List ℕ) (at n : ℕ) (vs ys : List ℕ) → at ≤ length work → ys ≡ vs ++ drop n (mid_of at (length work - at) work)
@@ -49,13 +40,6 @@ part_back work at n vs ys h e =
     ap (λ (l : List ℕ). take at work ++ (ys ++ l)) none
     ∙ ap (λ (l : List ℕ). take at work ++ l) (append-nil ys ∙ e ∙ ap (λ (l : List ℕ). vs ++ drop n l) whole ∙ ap
     (λ (l : List ℕ). vs ++ l) (drop-drop n at work))
-
--- one more counter read
-pub counters_more : (cs xs : List ℕ) (i x : ℕ) → i < length cs → i < length xs → x ≡ get_or xs i 0 → take i cs ≡ take i xs
-    → take (i + 1) (set cs i x) ≡ take (i + 1) xs
-counters_more cs xs i x h k q e =
-    rw add-one
-    (take-suc-set cs i x h ∙ ap₂ (λ (l : List ℕ) (w : ℕ). l ++ w ∷ []) e q ∙ sym (take-suc xs i 0 k))
 
 -- a slot's bytes are in the work buffer
 pub slot_fits : (s len : ℕ) → s < slot_count len → s * slot_size + slot_size ≤ len

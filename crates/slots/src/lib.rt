@@ -5,15 +5,13 @@ ghost use Rattle.std.specs.Prelude.{◌≡◌, ◌++◌, ◌<◌, ◌≤◌, len
 ghost use Rattle.slots.specs.Slots.{slot_count, slot_size, slot_bytes};
 ghost use Rattle.slots.specs.Bytes.{with_slot, vertex_at, letter_at, parent_at, Falls, word_at};
 
-use automaton::MAX_STATES;
-
 // The bytes of a slot.
 pub const SLOT_SIZE: usize = 40;
 
 // The most slots that a walk uses.
 pub const MAX_SLOTS: usize = 4096;
 
-// What the initial vertex's slot has as letter and as parent, since it was found by none.
+// What the initial vertex's slot has as letter and as parent, since it was found by none. Numbers, since these are documented bytes of its slot.
 pub const NO_LETTER: u8 = 255;
 
 pub const NO_PARENT: usize = 65535;
@@ -25,12 +23,11 @@ pub struct Vertex {
     pub counters: [u8; 32],
 }
 
-// The number of slots of a work buffer of len bytes.
+// The number of slots of a work buffer of `len` bytes.
 pub fn slot_count(len: usize) -> usize
     ensures { result ≡ slot_count len }
 {
-    let whole = len / SLOT_SIZE;
-    if whole < MAX_SLOTS { whole } else { MAX_SLOTS }
+    (len / SLOT_SIZE).min(MAX_SLOTS)
 }
 
 // Writes a slot to the front of the part that is lent.
@@ -38,19 +35,10 @@ pub fn put_slot(part: &mut [u8], v: Vertex, letter: u8, parent: usize)
     requires { (slot_size ≤ length part.old) × (parent < 65536) }
     ensures { part.new ≡ slot_bytes v letter parent ++ drop slot_size part.old }
 {
+    let [low, high] = (parent as u16).to_le_bytes();
     part[0] = v.left;
-    let mut i: usize = 0;
-    while i < MAX_STATES {
-        part[1 + i] = v.counters[i];
-        i += 1;
-    }
-    part[33] = letter;
-    part[34] = (parent % 256) as u8;
-    part[35] = (parent / 256) as u8;
-    part[36] = 0;
-    part[37] = 0;
-    part[38] = 0;
-    part[39] = 0;
+    part[1..33].copy_from_slice(&v.counters);
+    part[33..40].copy_from_slice(&[letter, low, high, 0, 0, 0, 0]);
 }
 
 // Writes slot s of the work buffer, which is lent to the slot writer from that slot's offset on.
@@ -68,13 +56,8 @@ pub fn load(work: &[u8], s: usize) -> Vertex
     ensures { result ≡ vertex_at work.now s }
 {
     let at = s * SLOT_SIZE;
-    let from = at + 1;
     let mut counters = [0u8; 32];
-    let mut i: usize = 0;
-    while i < MAX_STATES {
-        counters[i] = work[from + i];
-        i += 1;
-    }
+    counters.copy_from_slice(&work[at + 1..at + 33]);
     Vertex {
         left: work[at],
         counters,
@@ -95,9 +78,7 @@ pub fn parent_of(work: &[u8], s: usize) -> usize
     ensures { result ≡ parent_at work.now s }
 {
     let at = s * SLOT_SIZE;
-    let low = work[at + 34] as usize;
-    let high = work[at + 35] as usize;
-    low + high * 256
+    u16::from_le_bytes([work[at + 34], work[at + 35]]) as usize
 }
 
 // The number of letters on the way to slot s.

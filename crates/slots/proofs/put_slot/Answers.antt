@@ -1,30 +1,12 @@
--- `slots::put_slot` meets its contract. After i rounds the first i counters stand behind the left state; the seven stores after the loop
--- complete the slot. Assumes nothing.
-use mathlib.Core.Path.{◌≡◌, ap, ◌∙◌}
-use mathlib.Core.List.{List}
-use Prim.Native.Nat.{ℕ, ◌+◌}
-use native.Mathlib.Numerals.{add-one}
-use native.Mathlib.Omega.{arith}
-use borrow.Author.Rules.{rules}
-use lib.ListN.{get_or, set, length-set}
-use lib.Seq.{paste-suc}
+-- `slots::put_slot` meets its contract: the left state, the counters copied behind it, and the bytes copied behind those are the slot. Assumes
+-- nothing.
+use Rattle.std.proofs.Common.{◌≡◌, ◌/◌, ◌%◌, arith, rules}
 use Rattle.slots.proofs.SlotLayout.{slot_written}
 use Rattle.slots.proofs.put_slot.Goals as goal
 
-pub loop-i-preserved : goal.loop-i-preserved
-loop-i-preserved c = let l = c.loop-i in
-    let a = c.args in
-    let d = set a.part.now 0 a.v.left in (
-      search rules,
-      length-set l.part _ _ ∙ l.invariant.1,
-      l.invariant.2,
-      l.invariant.3,
-      rw add-one (ap (λ (x : List ℕ). set x (1 + l.i) (get_or a.v.counters l.i 0)) l.invariant.4
-          ∙ paste-suc d 1 a.v.counters l.i 0 (omega arith) (omega arith)),
-    )
-
 pub returns : goal.returns
-returns c = let l = c.loop-i in
+returns c =
     let a = c.args in
-    let q : l.i ≡ 32 = omega arith in
-    slot_written a.part.now a.v l.part a.letter a.parent (search rules) l.invariant.3 (rw q at l.invariant.4)
+    let high : a.parent / 256 % 256 ≡ a.parent / 256 = omega arith in
+    rw (c.copy_from_slice.ensures.after, c.copy_from_slice-2.ensures.after, c.to_le_bytes.ensures, high)
+    (slot_written a.part.now a.v a.letter a.parent c.requires.0 (search rules))
