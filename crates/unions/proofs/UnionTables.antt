@@ -2,21 +2,25 @@
 -- together the union that the word chooses. Assumes nothing.
 use mathlib.Core.Path.{◌≡◌, refl, sym, ap, ap₂, subst, ◌∙◌}
 use mathlib.Core.Bool.{Bool, true, false, ◌&&◌, ◌||◌}
-use mathlib.Core.List.{List}
+use mathlib.Core.List.{List, ◌++◌}
 use Prim.Native.Nat.{ℕ, zero, suc, ◌+◌, ◌*◌, ◌/◌, ◌%◌, ◌^◌, ◌-◌, ◌≤◌, ◌<◌}
-use native.Mathlib.Nat.{pow-suc, div-eq_of_lt, div-one, add-zero, add-suc}
+use native.Mathlib.Nat.{pow-suc, div-eq_of_lt, div-one, add-zero, add-suc, zero-add}
 use native.Mathlib.Numerals.{add-one}
 use native.Mathlib.Omega.{arith}
 use lib.Bits.{bit_or}
 use lib.Dec.{eqb, ltb}
-use lib.ListN.{length, get_or, set, length-set}
+use lib.ListN.{length, get_or, set, take, drop, length-set, length-drop}
 use lib.Pow.{shr-shr}
-use lib.Seq.{get_or-set_same, get_or-set_other}
+use lib.Seq.{get_or-set_same, get_or-set_other, get_or-drop}
 use borrow.Author.Tests.{ltb-true, ltb-false, lt-ltb, le-ltb}
-use Rattle.automaton.specs.Ranges.{some}
+use borrow.Rule.Slice.PartMut.{mid_of, put_mid}
+use Rattle.std.proofs.Common.{take_all, append-nil}
+use Rattle.std.proofs.lemmas.List.{drop-drop, drop_all}
+use Rattle.automaton.specs.Ranges.{some, table}
 use Rattle.automaton.specs.Sets.{bit}
 use Rattle.automaton.proofs.Bits.{bit_zero, bit_of_or}
-use Rattle.relations.proofs.Rows.{some_none, some_more, some_same, bit_low, bit_high, words_same, bit_with_row, SameElsewhere, changed_row, changed_kept, rows_changed}
+use Rattle.relations.specs.Rows.{changed_rows}
+use Rattle.relations.proofs.Rows.{some_none, some_more, some_same, bit_low, bit_high, words_same, bit_with_row, SameElsewhere, changed_length, changed_row, changed_kept, changed_none, changed_joined, rows_changed}
 use Rattle.unions.specs.Unions.{chosen, union_of, named, Choices, Unions, groups_where, groups_for, doubled, filled}
 
 pub or_false : (b : Bool) → (b || false) ≡ b
@@ -39,259 +43,251 @@ some_append f n (suc m) =
 
 -- Entries doubled.
 
--- the n entries from place at on are followed by the same with the members of v besides
-record Doubled (table : List ℕ) (at n v : ℕ) (table' : List ℕ) : Type 0 where
-  kept : SameElsewhere (at + n) n table table'
-  made : (m : ℕ) → m < n → get_or table' (at + n + m) 0 ≡ bit_or (get_or table (at + m) 0) v
+-- the first n entries are followed by the same with the members of v besides
+record Doubled (entries : List ℕ) (n v : ℕ) (entries' : List ℕ) : Type 0 where
+  kept : SameElsewhere n n entries entries'
+  made : (m : ℕ) → m < n → get_or entries' (n + m) 0 ≡ bit_or (get_or entries m 0) v
 
-doubled_says : {table' : List ℕ} (table : List ℕ) (at n v : ℕ) → at + n + n ≤ length table → table' ≡ doubled table at n v
-    → Doubled table at n v table'
-doubled_says table at n v h e =
-    subst (Doubled table at n v) (sym e)
-    record { kept = changed_kept (at + n) n _ table h; made = λ m l. changed_row (at + n) n _ table h m l }
+doubled_says : {entries' : List ℕ} (entries : List ℕ) (n v : ℕ) → n + n ≤ length entries → entries' ≡ doubled entries n v
+    → Doubled entries n v entries'
+doubled_says entries n v h e =
+    subst (Doubled entries n v) (sym e) record { kept = changed_kept n n _ entries h; made = λ m l. changed_row n n _ entries h m l }
 
-choices_begin : (table values : List ℕ) (at first : ℕ) → get_or table at 0 ≡ 0 → Choices table at values first 0
-choices_begin table values at first e m q h =
+choices_begin : (entries values : List ℕ) → get_or entries 0 0 ≡ 0 → Choices entries values 0
+choices_begin entries values e m q h =
     let l : m < 1 = h in
-    let d : at + m ≡ at = omega arith in
-    ap (λ (i : ℕ). bit (get_or table i 0) q) d ∙ ap (λ (w : ℕ). bit w q) e ∙ bit_zero q ∙ sym (some_none _)
+    let d : m ≡ 0 = omega arith in
+    ap (λ (i : ℕ). bit (get_or entries i 0) q) d ∙ ap (λ (w : ℕ). bit w q) e ∙ bit_zero q ∙ sym (some_none _)
 
 -- a number below 2 ^ k lacks bit k
 bit_above : (m k : ℕ) → m < 2 ^ k → bit m k ≡ false
 bit_above m k h = ap (λ (x : ℕ). eqb (x % 2) 1) (div-eq_of_lt h)
 
-choices_double : (table table' values : List ℕ) (at first k v : ℕ) → v ≡ get_or values (first + k) 0
-    → Choices table at values first k → Doubled table at (2 ^ k) v table' → Choices table' at values first (suc k)
-choices_double table table' values at first k v same c d m q h = go (ltb m (2 ^ k)) refl
+choices_double : (entries entries' values : List ℕ) (k v : ℕ) → v ≡ get_or values k 0
+    → Choices entries values k → Doubled entries (2 ^ k) v entries' → Choices entries' values (suc k)
+choices_double entries entries' values k v same c d m q h = go (ltb m (2 ^ k)) refl
   where
     test : ℕ → ℕ → Bool
-    test w b = bit w b && bit (get_or values (first + b) 0) q
+    test w b = bit w b && bit (get_or values b 0) q
 
-    more : (w : ℕ) (top : Bool) → bit w k ≡ top
-        → chosen values first (suc k) w q ≡ (chosen values first k w q || (top && bit (get_or values (first + k) 0) q))
+    more : (w : ℕ) (top : Bool) → bit w k ≡ top → chosen values (suc k) w q ≡ (chosen values k w q || (top && bit (get_or values k 0) q))
     more w top e =
         ap (λ (j : ℕ). some (test w) j 0) (sym (add-one k))
         ∙ some_more (test w) k
-        ∙ ap (λ (b : Bool). chosen values first k w q || (b && bit (get_or values (first + k) 0) q)) e
+        ∙ ap (λ (b : Bool). chosen values k w q || (b && bit (get_or values k 0) q)) e
 
-    past : (j : ℕ) → m ≡ 1 * 2 ^ k + j → bit (get_or table' (at + m) 0) q ≡ chosen values first (suc k) m q
+    past : (j : ℕ) → m ≡ 1 * 2 ^ k + j → bit (get_or entries' m 0) q ≡ chosen values (suc k) m q
     past j g =
         let l₀ : m < 2 ^ k * 2 = rw pow-suc at h in
         let l : j < 2 ^ k = omega arith in
-        let i : at + m ≡ at + 2 ^ k + j = omega arith in
+        let i : m ≡ 2 ^ k + j = omega arith in
         let top : bit m k ≡ true =
         ap₂ bit g (sym (add-zero k)) ∙ bit_high k 1 j 0 l in
-        let low : chosen values first k j q ≡ chosen values first k m q =
-        some_same (test j) (test m) k (λ b hb. ap (λ (x : Bool). x && bit (get_or values (first + b) 0) q)
+        let low : chosen values k j q ≡ chosen values k m q =
+        some_same (test j) (test m) k (λ b hb. ap (λ (x : Bool). x && bit (get_or values b 0) q)
         (sym (ap (λ (w : ℕ). bit w b) g ∙ bit_low k 1 j b hb))) in
-        ap (λ (x : ℕ). bit (get_or table' x 0) q) i
+        ap (λ (x : ℕ). bit (get_or entries' x 0) q) i
         ∙ ap (λ (w : ℕ). bit w q) (d.made j l)
-        ∙ bit_of_or (get_or table (at + j) 0) v q
+        ∙ bit_of_or (get_or entries j 0) v q
         ∙ ap₂ ◌||◌ (c j q l ∙ low) (ap (λ (w : ℕ). bit w q) same)
         ∙ sym (more m true top)
 
-    go : (b : Bool) → ltb m (2 ^ k) ≡ b → bit (get_or table' (at + m) 0) q ≡ chosen values first (suc k) m q
+    go : (b : Bool) → ltb m (2 ^ k) ≡ b → bit (get_or entries' m 0) q ≡ chosen values (suc k) m q
     go true e =
         let l = ltb-true m (2 ^ k) e in
-        ap (λ (w : ℕ). bit w q) (d.kept.before (at + m) (omega arith))
+        ap (λ (w : ℕ). bit w q) (d.kept.before m l)
         ∙ c m q l
-        ∙ sym (or_false (chosen values first k m q))
+        ∙ sym (or_false (chosen values k m q))
         ∙ sym (more m false (bit_above m k l))
     go false e = past (m - 2 ^ k) (omega (arith, ltb-false m (2 ^ k) e))
 
--- the first entry 0 and the others doubled from it, for four values
-choices_four : (t t₁ t₂ t₃ t₄ values : List ℕ) (at first : ℕ) → at < length t
-    → Doubled (set t at 0) at 1 (get_or values first 0) t₁ → Doubled t₁ at 2 (get_or values (first + 1) 0) t₂
-    → Doubled t₂ at 4 (get_or values (first + 2) 0) t₃ → Doubled t₃ at 8 (get_or values (first + 3) 0) t₄
-    → Choices t₄ at values first 4 × SameElsewhere at 16 t t₄
-choices_four t t₁ t₂ t₃ t₄ values at first h d₁ d₂ d₃ d₄ =
-    let c₀ = choices_begin (set t at 0) values at first (get_or-set_same t at 0 0 h) in
-    let c₁ = choices_double (set t at 0) t₁ values at first 0 _ (ap (λ (i : ℕ). get_or values i 0) (sym (add-zero first))) c₀ d₁ in
-    let c₂ = choices_double t₁ t₂ values at first 1 _ refl c₁ d₂ in
-    let c₃ = choices_double t₂ t₃ values at first 2 _ refl c₂ d₃ in (
-      choices_double t₃ t₄ values at first 3 _ refl c₃ d₄,
-      record {
-        before = λ i l. d₄.kept.before i (omega arith) ∙ d₃.kept.before i (omega arith) ∙ d₂.kept.before i (omega arith)
-            ∙ d₁.kept.before i (omega arith) ∙ get_or-set_other t at i 0 0 (λ e. omega arith);
-        after = λ i l. d₄.kept.after i (omega arith) ∙ d₃.kept.after i (omega arith) ∙ d₂.kept.after i (omega arith)
-            ∙ d₁.kept.after i (omega arith) ∙ get_or-set_other t at i 0 0 (λ e. omega arith);
-      },
-    )
+-- Entries filled.
 
--- A table filled, and a table of unions.
-
-union_chosen : (values : List ℕ) (first k m q : ℕ) → bit (union_of values first k m) q ≡ chosen values first k m q
+union_chosen : (values : List ℕ) (k m q : ℕ) → bit (union_of values k m) q ≡ chosen values k m q
 unfolding union_of
-union_chosen values first zero m q = bit_zero q ∙ sym (some_none _)
-union_chosen values first (suc k) m q =
-    bit_with_row (union_of values first k m) m k (get_or values (first + k) 0) q
-    ∙ ap (λ (c : Bool). c || (bit m k && bit (get_or values (first + k) 0) q)) (union_chosen values first k m q)
-    ∙ sym (some_more (λ b. bit m b && bit (get_or values (first + b) 0) q) k)
-    ∙ ap (λ (j : ℕ). chosen values first j m q) (add-one k)
+union_chosen values zero m q = bit_zero q ∙ sym (some_none _)
+union_chosen values (suc k) m q =
+    bit_with_row (union_of values k m) m k (get_or values k 0) q
+    ∙ ap (λ (c : Bool). c || (bit m k && bit (get_or values k 0) q)) (union_chosen values k m q)
+    ∙ sym (some_more (λ b. bit m b && bit (get_or values b 0) q) k)
+    ∙ ap (λ (j : ℕ). chosen values j m q) (add-one k)
 
-module _ (t t' values : List ℕ) (at first groups : ℕ) (fits : at + groups * 16 ≤ length t) where
-  pub filled_unions : t' ≡ filled t at values first groups → Unions t' at values first groups × SameElsewhere at (groups * 16) t t'
-  filled_unions e = subst (λ (x : List ℕ). Unions x at values first groups × SameElsewhere at (groups * 16) t x) (sym e) (entries, changed_kept at (groups * 16) _ t fits)
-    where
-      union : ℕ → ℕ
-      union j = union_of values (first + j / 16 * 4) 4 (j % 16)
-
-      entries : Unions (filled t at values first groups) at values first groups
-      entries g h m q l =
-          let small : m < 16 = l in
-          let i : at + g * 16 + m ≡ at + (g * 16 + m) = omega arith in
-          let d : (g * 16 + m) / 16 ≡ g = omega arith in
-          let r : (g * 16 + m) % 16 ≡ m = omega arith in
-          ap (λ (x : ℕ). bit (get_or (filled t at values first groups) x 0) q) i
-          ∙ ap (λ (w : ℕ). bit w q) (changed_row at (groups * 16) union t fits (g * 16 + m) (omega arith))
-          ∙ ap₂ (λ (x y : ℕ). bit (union_of values (first + x * 4) 4 y) q) d r
-          ∙ union_chosen values (first + g * 4) 4 m q
-
-  pub unions_filled : length t' ≡ length t → Unions t' at values first groups × SameElsewhere at (groups * 16) t t'
-      → t' ≡ filled t at values first groups
-  unions_filled e u = rows_changed at (groups * 16) _ t fits t' e u.1 (λ j h. words_same _ _ (λ q. at_entry j h q))
-    where
-      at_entry : (j : ℕ) → j < groups * 16 → (q : ℕ)
-          → bit (get_or t' (at + j) 0) q ≡ bit (union_of values (first + j / 16 * 4) 4 (j % 16)) q
-      at_entry j h q =
-          let i : at + j ≡ at + j / 16 * 16 + j % 16 = omega arith in
-          ap (λ (x : ℕ). bit (get_or t' x 0) q) i
-          ∙ u.0 (j / 16) (omega arith) (j % 16) q (omega arith)
-          ∙ sym (union_chosen values (first + j / 16 * 4) 4 (j % 16) q)
-
--- one group
-module _ (t values : List ℕ) (at first : ℕ) where
-  group_choices : Unions t at values first 1 → Choices t at values first 4
-  group_choices u = subst (λ (x : ℕ). Choices t x values first 4) (omega arith) (subst (λ (x : ℕ). Choices t (at + 0 * 16) values x 4) (omega arith) (u 0 (omega arith)))
-
-  choices_group : Choices t at values first 4 → Unions t at values first 1
-  choices_group c g h =
-      let i : at ≡ at + g * 16 = omega arith in
-      let d : first ≡ first + g * 4 = omega arith in
-      subst (λ (x : ℕ). Choices t x values (first + g * 4) 4) i (subst (λ (x : ℕ). Choices t at values x 4) d c)
-
--- a table with its entry at place at 0 and then doubled by four values is filled with their group
-pub four_filled : (t t₁ t₂ t₃ t₄ values : List ℕ) (at first : ℕ) → at + 16 ≤ length t
+-- the first entry 0 and the others doubled from it, by four values
+pub four_filled : (t t₁ t₂ t₃ t₄ values : List ℕ) → 16 ≤ length t
     → length t₁ ≡ length t → length t₂ ≡ length t → length t₃ ≡ length t → length t₄ ≡ length t
-    → t₁ ≡ doubled (set t at 0) at 1 (get_or values first 0) → t₂ ≡ doubled t₁ at 2 (get_or values (first + 1) 0)
-    → t₃ ≡ doubled t₂ at 4 (get_or values (first + 2) 0) → t₄ ≡ doubled t₃ at 8 (get_or values (first + 3) 0)
-    → t₄ ≡ filled t at values first 1
-four_filled t t₁ t₂ t₃ t₄ values at first h l₁ l₂ l₃ l₄ d₁ d₂ d₃ d₄ =
-    let c = choices_four t t₁ t₂ t₃ t₄ values at first (omega arith)
-    (doubled_says (set t at 0) at 1 _ (omega (arith, length-set t at 0)) d₁) (doubled_says t₁ at 2 _ (omega arith) d₂)
-    (doubled_says t₂ at 4 _ (omega arith) d₃) (doubled_says t₃ at 8 _ (omega arith) d₄) in
-    unions_filled t t₄ values at first 1 h l₄ (choices_group t₄ values at first c.0, c.1)
-
--- Groups filled one after another.
-
-module _ (values : List ℕ) (at first : ℕ) where
-  pub unions_begin : (t : List ℕ) → Unions t at values first 0 × SameElsewhere at (0 * 16) t t
-  unions_begin t = (λ g h. absurd (omega arith), record { before = λ i h. refl; after = λ i h. refl })
-
-  pub unions_go_on : (t t' t'' : List ℕ) (g : ℕ) → at + g * 16 + 16 ≤ length t' → Unions t' at values first g × SameElsewhere at (g * 16) t t'
-      → t'' ≡ filled t' (at + g * 16) values (first + g * 4) 1 → Unions t'' at values first (g + 1) × SameElsewhere at ((g + 1) * 16) t t''
-  unions_go_on t t' t'' g fits u e = (
-    λ j h. go j h (ltb j g) refl,
+    → t₁ ≡ doubled (set t 0 0) 1 (get_or values 0 0) → t₂ ≡ doubled t₁ 2 (get_or values 1 0)
+    → t₃ ≡ doubled t₂ 4 (get_or values 2 0) → t₄ ≡ doubled t₃ 8 (get_or values 3 0)
+    → t₄ ≡ filled t values 1
+four_filled t t₁ t₂ t₃ t₄ values h l₁ l₂ l₃ l₄ e₁ e₂ e₃ e₄ =
+    rows_changed 0 16 _ t (omega arith) t₄ l₄
     record {
-      before = λ i h. c.1.before i (omega arith) ∙ u.1.before i h;
-      after = λ i h. c.1.after i (omega arith) ∙ u.1.after i (omega arith);
-    },
-  )
-    where
-      group : Unions t'' (at + g * 16) values (first + g * 4) 1 × SameElsewhere (at + g * 16) 16 t' t''
-      group = filled_unions t' t'' values (at + g * 16) (first + g * 4) 1 fits e
+      before = λ i l. absurd (omega arith);
+      after = λ i l. d₄.kept.after i (omega arith) ∙ d₃.kept.after i (omega arith) ∙ d₂.kept.after i (omega arith)
+          ∙ d₁.kept.after i (omega arith) ∙ get_or-set_other t 0 i 0 0 (λ e. omega arith);
+    }
+    (λ j l. words_same _ _ (λ q. entry j l q))
+  where
+    d₁ : Doubled (set t 0 0) 1 (get_or values 0 0) t₁
+    d₁ = doubled_says (set t 0 0) 1 _ (omega (arith, length-set t 0 0)) e₁
 
-      c : Choices t'' (at + g * 16) values (first + g * 4) 4 × SameElsewhere (at + g * 16) 16 t' t''
-      c = (group_choices t'' values (at + g * 16) (first + g * 4) group.0, group.1)
+    d₂ : Doubled t₁ 2 (get_or values 1 0) t₂
+    d₂ = doubled_says t₁ 2 _ (omega arith) e₂
 
-      go : (j : ℕ) → j < g + 1 → (b : Bool) → ltb j g ≡ b → Choices t'' (at + j * 16) values (first + j * 4) 4
-      go j h true e = λ m q l.
-          let less = ltb-true j g e in
-          let l₁ : m < 16 = l in
-          ap (λ (w : ℕ). bit w q) (c.1.before (at + j * 16 + m) (omega arith)) ∙ u.0 j less m q l
-      go j h false e =
-          let more = ltb-false j g e in
-          let same : g ≡ j = omega arith in
-          subst (λ (x : ℕ). Choices t'' (at + x * 16) values (first + x * 4) 4) same c.0
+    d₃ : Doubled t₂ 4 (get_or values 2 0) t₃
+    d₃ = doubled_says t₂ 4 _ (omega arith) e₃
 
-  -- a table filled further on keeps its groups
-  pub unions_kept : (t t' : List ℕ) (groups at' n : ℕ) → at + groups * 16 ≤ at' → SameElsewhere at' n t t' → Unions t at values first groups
-      → Unions t' at values first groups
-  unions_kept t t' groups at' n h k u g hg m q l =
-      let l₁ : m < 16 = l in
-      ap (λ (w : ℕ). bit w q) (k.before (at + g * 16 + m) (omega arith)) ∙ u g hg m q l
+    d₄ : Doubled t₃ 8 (get_or values 3 0) t₄
+    d₄ = doubled_says t₃ 8 _ (omega arith) e₄
+
+    c₂ : Choices t₂ values 2
+    c₂ = choices_double t₁ t₂ values 1 _ refl
+        (choices_double (set t 0 0) t₁ values 0 _ refl (choices_begin (set t 0 0) values (get_or-set_same t 0 0 0 (omega arith))) d₁) d₂
+
+    c₄ : Choices t₄ values 4
+    c₄ = choices_double t₃ t₄ values 3 _ refl (choices_double t₂ t₃ values 2 _ refl c₂ d₃) d₄
+
+    entry : (j : ℕ) → j < 16 → (q : ℕ) → bit (get_or t₄ (0 + j) 0) q ≡ bit (union_of (drop (j / 16 * 4) values) 4 (j % 16)) q
+    entry j l q =
+        let d : 0 ≡ j / 16 * 4 = omega arith in
+        let r : j ≡ j % 16 = omega arith in
+        ap (λ (i : ℕ). bit (get_or t₄ i 0) q) (zero-add j)
+        ∙ c₄ j q l
+        ∙ sym (union_chosen values 4 j q)
+        ∙ ap₂ (λ (i m : ℕ). bit (union_of (drop i values) 4 m) q) d r
+
+-- no group filled, and one more, in what the table has behind the groups before
+pub filled_none : (t values : List ℕ) → t ≡ filled t values 0
+filled_none t values = sym (changed_none 0 _ t)
+
+-- the 16 entries from place i on changed in the slice from there on
+slice_changed : (i k : ℕ) (f : ℕ → ℕ) (t : List ℕ) → length t ≡ i + k → put_mid i k t (changed_rows 0 16 f (mid_of i k t)) ≡ changed_rows i 16 f t
+unfolding changed_rows
+slice_changed i k f t e =
+    ap₂ (λ (l m : List ℕ). take i t ++ ((table f 16 0 ++ drop 16 l) ++ m)) (take_all k (drop i t) long) (drop_all k (drop i t) long)
+    ∙ ap (λ (l : List ℕ). take i t ++ l) (append-nil (table f 16 0 ++ drop 16 (drop i t)))
+    ∙ ap (λ (l : List ℕ). take i t ++ (table f 16 0 ++ l)) (drop-drop 16 i t)
+  where
+    long : length (drop i t) ≤ k
+    long = omega (arith, length-drop i t)
+
+pub filled_more : (t t' values ys : List ℕ) (g k l : ℕ) → 16 ≤ k → t' ≡ filled t values g → length t ≡ g * 16 + k
+    → length values ≡ g * 4 + l → ys ≡ filled (mid_of (g * 16) k t') (mid_of (g * 4) l values) 1 → put_mid (g * 16) k t' ys ≡ filled t values (g + 1)
+filled_more t t' values ys g k l h e n m d =
+    ap (put_mid (g * 16) k t') (d ∙ ap (λ (vs : List ℕ). filled (mid_of (g * 16) k t') vs 1) (take_all l (drop (g * 4) values) (omega (arith, length-drop (g * 4) values))))
+    ∙ slice_changed (g * 16) k group t' (ap length e ∙ changed_length 0 (g * 16) union t (omega arith) ∙ n)
+    ∙ ap₂ (λ (i : ℕ) (x : List ℕ). changed_rows i 16 group x) (sym (zero-add (g * 16))) e
+    ∙ changed_joined 0 (g * 16) union t 16 group (omega arith) same
+    ∙ ap (λ (n : ℕ). changed_rows 0 n union t) (omega arith)
+  where
+    union : ℕ → ℕ
+    union j = union_of (drop (j / 16 * 4) values) 4 (j % 16)
+
+    group : ℕ → ℕ
+    group j = union_of (drop (j / 16 * 4) (drop (g * 4) values)) 4 (j % 16)
+
+    same : (j : ℕ) → j < 16 → group j ≡ union (g * 16 + j)
+    same j l =
+        let d : g * 4 + j / 16 * 4 ≡ (g * 16 + j) / 16 * 4 = omega arith in
+        let r : j % 16 ≡ (g * 16 + j) % 16 = omega arith in
+        ap (λ (vs : List ℕ). union_of vs 4 (j % 16)) (drop-drop (j / 16 * 4) (g * 4) values)
+        ∙ ap₂ (λ (x y : ℕ). union_of (drop x values) 4 y) d r
+
+-- what is filled are unions
+pub filled_unions : (t t' values : List ℕ) (groups : ℕ) → groups * 16 ≤ length t → t' ≡ filled t values groups → Unions t' values groups
+filled_unions t t' values groups fits e = subst (λ (x : List ℕ). Unions x values groups) (sym e) entries
+  where
+    union : ℕ → ℕ
+    union j = union_of (drop (j / 16 * 4) values) 4 (j % 16)
+
+    entries : Unions (filled t values groups) values groups
+    entries g h m q l =
+        let small : m < 16 = l in
+        let i : g * 16 + m ≡ 0 + (g * 16 + m) = omega arith in
+        let d : (g * 16 + m) / 16 ≡ g = omega arith in
+        let r : (g * 16 + m) % 16 ≡ m = omega arith in
+        ap (λ (w : ℕ). bit w q) (get_or-drop (g * 16) (filled t values groups) m 0)
+        ∙ ap (λ (x : ℕ). bit (get_or (filled t values groups) x 0) q) i
+        ∙ ap (λ (w : ℕ). bit w q) (changed_row 0 (groups * 16) union t (omega arith) (g * 16 + m) (omega arith))
+        ∙ ap₂ (λ (x y : ℕ). bit (union_of (drop (x * 4) values) 4 y) q) d r
+        ∙ union_chosen (drop (g * 4) values) 4 m q
 
 -- Entries looked up.
 
 pub low_bits : (w k b : ℕ) → b < k → (r : ℕ) → w ≡ w / 2 ^ k * 2 ^ k + r → bit r b ≡ bit w b
 low_bits w k b h r e = sym (ap (λ (x : ℕ). bit x b) e ∙ bit_low k (w / 2 ^ k) r b h)
 
--- the union of k values, and that of the values after them, which the higher bits choose
-chosen_append : (values : List ℕ) (first m k choice q : ℕ)
-    → chosen values first (m + k) choice q ≡ (chosen values first m choice q || chosen values (first + m) k (choice / 2 ^ m) q)
-chosen_append values first m k choice q =
+-- the union of m values, and that of the k values after them, which the higher bits choose
+chosen_append : (values : List ℕ) (m k choice q : ℕ)
+    → chosen values (m + k) choice q ≡ (chosen values m choice q || chosen (drop m values) k (choice / 2 ^ m) q)
+chosen_append values m k choice q =
     some_append test m k ∙ ap (λ (c : Bool). some test m 0 || c) (some_same (λ b. test (m + b)) _ k (λ b h. at_bit b))
   where
     test : ℕ → Bool
-    test t = bit choice t && bit (get_or values (first + t) 0) q
+    test t = bit choice t && bit (get_or values t 0) q
 
-    at_bit : (b : ℕ) → test (m + b) ≡ (bit (choice / 2 ^ m) b && bit (get_or values (first + m + b) 0) q)
+    at_bit : (b : ℕ) → test (m + b) ≡ (bit (choice / 2 ^ m) b && bit (get_or (drop m values) b 0) q)
     at_bit b =
-        let i : first + (m + b) ≡ first + m + b = omega arith in
-        ap₂ (λ (x : Bool) (j : ℕ). x && bit (get_or values j 0) q) (sym (ap (λ (x : ℕ). eqb (x % 2) 1) (shr-shr choice m b))) i
+        ap₂ (λ (x : Bool) (w : ℕ). x && bit w q) (sym (ap (λ (x : ℕ). eqb (x % 2) 1) (shr-shr choice m b)))
+        (sym (get_or-drop m values b 0))
 
 -- four bits
-union_one : (table values : List ℕ) (at first choice q : ℕ) → Choices table at values first 4
-    → bit (get_or table (at + choice % 16) 0) q ≡ chosen values first 4 choice q
-union_one table values at first choice q c =
+union_one : (entries values : List ℕ) (choice q : ℕ) → Choices entries values 4 → bit (get_or entries (choice % 16) 0) q ≡ chosen values 4 choice q
+union_one entries values choice q c =
     let l : choice % 16 < 16 = omega arith in
     let w : choice ≡ choice / 16 * 16 + choice % 16 = omega arith in
     c (choice % 16) q l
-    ∙ some_same _ (λ b. bit choice b && bit (get_or values (first + b) 0) q) 4
-    (λ b h. ap (λ (x : Bool). x && bit (get_or values (first + b) 0) q) (low_bits choice 4 b h (choice % 16) w))
+    ∙ some_same _ (λ b. bit choice b && bit (get_or values b 0) q) 4
+    (λ b h. ap (λ (x : Bool). x && bit (get_or values b 0) q) (low_bits choice 4 b h (choice % 16) w))
 
 -- the entries that a word names in a table of unions have together what it chooses
-pub named_chosen : (table values : List ℕ) (at first groups choice q : ℕ) → Unions table at values first groups
-    → named table at groups choice q ≡ chosen values first (groups * 4) choice q
-named_chosen table values at first zero choice q u = some_none _ ∙ sym (some_none _)
-named_chosen table values at first (suc g) choice q u =
-    ap (λ (k : ℕ). named table at k choice q) (sym (add-one g))
-    ∙ some_more (λ b. bit (get_or table (at + b * 16 + choice / 2 ^ (b * 4) % 16) 0) q) g
-    ∙ ap₂ ◌||◌ (named_chosen table values at first g choice q (λ b h. u b (omega arith)))
-    (union_one table values (at + g * 16) (first + g * 4) (choice / 2 ^ (g * 4)) q (u g (omega arith)))
-    ∙ sym (chosen_append values first (g * 4) 4 choice q)
-    ∙ ap (λ (k : ℕ). chosen values first k choice q) (omega arith)
+pub named_chosen : (t values : List ℕ) (groups choice q : ℕ) → Unions t values groups → named t groups choice q ≡ chosen values (groups * 4) choice q
+named_chosen t values zero choice q u = some_none _ ∙ sym (some_none _)
+named_chosen t values (suc g) choice q u =
+    ap (λ (k : ℕ). named t k choice q) (sym (add-one g))
+    ∙ some_more (λ b. bit (get_or t (b * 16 + choice / 2 ^ (b * 4) % 16) 0) q) g
+    ∙ ap₂ ◌||◌ (named_chosen t values g choice q (λ b h. u b (omega arith)))
+    (ap (λ (w : ℕ). bit w q) (sym (get_or-drop (g * 16) t (choice / 2 ^ (g * 4) % 16) 0))
+    ∙ union_one (drop (g * 16) t) (drop (g * 4) values) (choice / 2 ^ (g * 4)) q (u g (omega arith)))
+    ∙ sym (chosen_append values (g * 4) 4 choice q)
+    ∙ ap (λ (k : ℕ). chosen values k choice q) (omega arith)
 
 -- Entries named by parts of a word.
 
-module _ (table : List ℕ) where
-  named_append : (at m k choice q : ℕ)
-      → named table at (m + k) choice q ≡ (named table at m choice q || named table (at + m * 16) k (choice / 2 ^ (m * 4)) q)
-  named_append at m k choice q =
+module _ (t : List ℕ) where
+  named_append : (m k choice q : ℕ)
+      → named t (m + k) choice q ≡ (named t m choice q || named (drop (m * 16) t) k (choice / 2 ^ (m * 4)) q)
+  named_append m k choice q =
       some_append test m k ∙ ap (λ (c : Bool). some test m 0 || c) (some_same (λ g. test (m + g)) _ k (λ g h. at_group g))
     where
       test : ℕ → Bool
-      test g = bit (get_or table (at + g * 16 + choice / 2 ^ (g * 4) % 16) 0) q
+      test g = bit (get_or t (g * 16 + choice / 2 ^ (g * 4) % 16) 0) q
 
-      at_group : (g : ℕ) → test (m + g) ≡ bit (get_or table (at + m * 16 + g * 16 + choice / 2 ^ (m * 4) / 2 ^ (g * 4) % 16) 0) q
+      at_group : (g : ℕ) → test (m + g) ≡ bit (get_or (drop (m * 16) t) (g * 16 + choice / 2 ^ (m * 4) / 2 ^ (g * 4) % 16) 0) q
       at_group g =
-          let i : at + (m + g) * 16 ≡ at + m * 16 + g * 16 = omega arith in
+          let i : (m + g) * 16 ≡ m * 16 + g * 16 = omega arith in
           let j : (m + g) * 4 ≡ m * 4 + g * 4 = omega arith in
           let x : choice / 2 ^ ((m + g) * 4) ≡ choice / 2 ^ (m * 4) / 2 ^ (g * 4) =
           ap (λ (y : ℕ). choice / 2 ^ y) j ∙ sym (shr-shr choice (m * 4) (g * 4)) in
-          ap₂ (λ (y z : ℕ). bit (get_or table (y + z % 16) 0) q) i x
+          ap₂ (λ (y z : ℕ). bit (get_or t (y + z % 16) 0) q) i x
+          ∙ ap (λ (y : ℕ). bit (get_or t y 0) q) (omega arith)
+          ∙ ap (λ (w : ℕ). bit w q) (sym (get_or-drop (m * 16) t (g * 16 + choice / 2 ^ (m * 4) / 2 ^ (g * 4) % 16) 0))
 
-  pub named_both : (at m k choice left right q : ℕ)
-      → bit left q ≡ named table at m choice q → bit right q ≡ named table (at + m * 16) k (choice / 2 ^ (m * 4)) q
-      → bit (bit_or left right) q ≡ named table at (m + k) choice q
-  named_both at m k choice left right q e d = bit_of_or left right q ∙ ap₂ ◌||◌ e d ∙ sym (named_append at m k choice q)
+  pub named_both : (m k choice left right q : ℕ)
+      → bit left q ≡ named t m choice q → bit right q ≡ named (drop (m * 16) t) k (choice / 2 ^ (m * 4)) q
+      → bit (bit_or left right) q ≡ named t (m + k) choice q
+  named_both m k choice left right q e d = bit_of_or left right q ∙ ap₂ ◌||◌ e d ∙ sym (named_append m k choice q)
 
-  pub named_one : (at choice q : ℕ) → bit (get_or table (at + choice % 16) 0) q ≡ named table at 1 choice q
+  -- what is named from place i on in the slice from there on
+  pub named_behind : (i k choice w q : ℕ) → i ≤ length t → bit w q ≡ named (take (length t - i) (drop i t)) k choice q
+      → bit w q ≡ named (drop i t) k choice q
+  named_behind i k choice w q h e =
+      e ∙ ap (λ (l : List ℕ). named l k choice q) (take_all (length t - i) (drop i t) (omega (arith, length-drop i t)))
+
+  pub named_one : (choice q : ℕ) → bit (get_or t (choice % 16) 0) q ≡ named t 1 choice q
   unfolding some
-  named_one at choice q =
-      let i : at + choice % 16 ≡ at + 0 * 16 + choice % 16 = omega arith in
-      ap (λ (x : ℕ). bit (get_or table x 0) q) i
-      ∙ ap (λ (x : ℕ). bit (get_or table (at + 0 * 16 + x % 16) 0) q) (sym (div-one choice))
+  named_one choice q =
+      ap (λ (x : ℕ). bit (get_or t x 0) q) (sym (zero-add (choice % 16)))
+      ∙ ap (λ (x : ℕ). bit (get_or t (0 + x % 16) 0) q) (sym (div-one choice))
       ∙ sym (or_false _)
 
 -- The number of groups.

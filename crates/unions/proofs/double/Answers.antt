@@ -1,21 +1,22 @@
--- `unions::double` meets its contract. The loop's invariant: the entries before place at + size + m are as they are to be, and the
--- others as they were. Assumes nothing.
-use mathlib.Core.Path.{◌≡◌, ap, ◌∙◌}
-use Prim.Native.Nat.{ℕ, ◌+◌, ◌-◌}
+-- `unions::double` meets its contract: the entries before place size stay. Assumes nothing.
+use mathlib.Core.Path.{◌≡◌, sym, ap, ◌∙◌}
+use mathlib.Core.List.{List}
+use Prim.Native.Nat.{ℕ, ◌+◌}
 use native.Mathlib.Omega.{arith}
 use lib.Bits.{bit_or}
-use lib.ListN.{get_or}
-use Rattle.relations.proofs.Rows.{rows_changed}
+use lib.ListN.{get_or, set}
+use Rattle.relations.proofs.Rows.{changed_none, changed_more, changed_kept}
 use Rattle.unions.proofs.double.Goals as goal
 
-pub returns : goal.returns
-returns c =
+pub loop-m-init : goal.loop-m-init
+loop-m-init c = sym (changed_none _ _ _)
+
+pub loop-m-preserved : goal.loop-m-preserved
+loop-m-preserved c =
     let l = c.loop-m in
     let a = c.args in
-    let r = l.invariant.2 in
-    rows_changed (a.at + a.size) a.size _ a.table.now (omega arith) l.table l.invariant.1
-    record { before = λ i h. (r.done i (omega arith)).kept h; after = λ i h. r.rest i (omega arith) }
-    (λ m h.
-    let from : a.at + a.size + m - a.size ≡ a.at + m = omega arith in
-    (r.done (a.at + a.size + m) (omega arith)).made (omega arith)
-    ∙ ap (λ (i : ℕ). bit_or (get_or a.table.now i 0) a.value) from)
+    let t = a.entries.now in
+    let kept : get_or l.entries l.m 0 ≡ get_or t l.m 0 =
+    ap (λ (x : List ℕ). get_or x l.m 0) l.invariant ∙ (changed_kept a.size l.m _ t (omega arith)).before l.m (omega arith) in
+    ap (λ (x : List ℕ). set x (a.size + l.m) (bit_or (get_or l.entries l.m 0) a.value)) l.invariant
+    ∙ changed_more a.size l.m _ t _ (omega arith) (ap (λ (w : ℕ). bit_or w a.value) kept)

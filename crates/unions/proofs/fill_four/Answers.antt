@@ -5,12 +5,9 @@ use Rattle.unions.proofs.UnionTables.{four_filled}
 use Rattle.unions.proofs.fill_four.Goals as goal
 
 pub returns : goal.returns
-returns c = let fourth = c in
-    let third = fourth in
-    let second = third in
-    let doubled = second in
-    let a = doubled.args in
-    let start = length-set a.table.now a.at 0 in
-    four_filled a.table.now doubled.double.new.table second.double-2.new.table third.double-3.new.table fourth.double-4.new.table
-    a.values.now a.at a.first (omega arith) (omega arith) (omega arith) (omega arith) (omega arith)
-    doubled.double.ensures second.double-2.ensures third.double-3.ensures fourth.double-4.ensures
+returns c =
+    let a = c.args in
+    let start = length-set a.entries.now 0 0 in
+    four_filled a.entries.now c.double.new.entries c.double-2.new.entries c.double-3.new.entries c.double-4.new.entries
+    a.values.now (omega arith) (omega arith) (omega arith) (omega arith) (omega arith)
+    c.double.ensures c.double-2.ensures c.double-3.ensures c.double-4.ensures
