@@ -1,56 +1,53 @@
 -- A file written part by part: the header, the accepting records, the transitions and the end, and what is left after each. Assumes nothing.
 use mathlib.Core.Path.{◌≡◌, refl}
 use mathlib.Core.List.{List, [], ◌++◌}
-use Prim.Native.Nat.{ℕ, ◌+◌, ◌≤◌, ◌<◌}
+use Prim.Native.Nat.{ℕ, ◌+◌, ◌≤◌}
 use native.Mathlib.Omega.{arith}
 use lib.ListN.{length}
 use Rattle.automaton.specs.declared.Automaton.{Automaton}
-use Rattle.automaton.specs.Sets.{bit, member}
-use Rattle.format.specs.Writing.{accepting_item, header_bytes, end_bytes}
-use Rattle.buffers.specs.Buffers.{WrittenAt}
+use Rattle.format.specs.Writing.{header_bytes, items_bytes, end_bytes}
+use Rattle.buffers.specs.declared.Cursor.{Cursor}
+use Rattle.buffers.specs.Cursors.{HasRoom, Added}
 use Rattle.buffers.proofs.Left.{Left, left_start, left_room, left_more, left_end}
-use Rattle.fixed_form.specs.FixedForm.{written}
-use Rattle.writer.specs.Parts.{records_of, transition_bytes}
+use Rattle.fixed_form.specs.FixedForm.{accepting_items, transition_items, written}
 use Rattle.writer.proofs.WrittenParts.{written_parts}
 
--- with w the accepting states as a word, and d the buffer before
-module _ (A : Automaton) (w : ℕ) (few : A.states ≤ 32) (same : (q : ℕ) → q < 32 → bit w q ≡ member A.accepting q) (d : List ℕ)
-    (room : length (written A) ≤ length d) where
+module _ (A : Automaton) (c : Cursor) (room : HasRoom c (length (written A))) where
   abbrev header : List ℕ
   header = header_bytes A.states A.letters A.initial
 
   abbrev accepting : List ℕ
-  accepting = records_of accepting_item (bit w) A.states 0
+  accepting = items_bytes (accepting_items A)
 
   abbrev transitions : List ℕ
-  transitions = transition_bytes A.transitions A.states A.letters
+  transitions = items_bytes (transition_items A)
 
-  all_left : Left d 0 (written A) (header ++ (accepting ++ (transitions ++ end_bytes))) d 0
-  all_left = left_start d 0 _ _ (written_parts A w few same) (omega arith)
+  all_left : Left c (written A) (header ++ (accepting ++ (transitions ++ end_bytes))) c
+  all_left = left_start c _ _ (written_parts A) (omega arith)
 
-  pub header_room : 0 + length header ≤ length d
-  header_room = left_room all_left header _ refl (omega arith)
+  pub header_room : HasRoom c (length header)
+  header_room = left_room all_left header _ refl room
 
-  module _ {e : List ℕ} {n : ℕ} (first : WrittenAt d 0 header e n) where
-    header_done : Left d 0 (written A) (accepting ++ (transitions ++ end_bytes)) e n
+  module _ {d : Cursor} (first : Added c header d) where
+    header_done : Left c (written A) (accepting ++ (transitions ++ end_bytes)) d
     header_done = left_more all_left header _ refl first
 
-    pub accepting_room : n + length accepting ≤ length e
-    accepting_room = left_room header_done accepting _ refl (omega arith)
+    pub accepting_room : HasRoom d (length accepting)
+    accepting_room = left_room header_done accepting _ refl room
 
-    module _ {f : List ℕ} {m : ℕ} (second : WrittenAt e n accepting f m) where
-      accepting_done : Left d 0 (written A) (transitions ++ end_bytes) f m
+    module _ {e : Cursor} (second : Added d accepting e) where
+      accepting_done : Left c (written A) (transitions ++ end_bytes) e
       accepting_done = left_more header_done accepting _ refl second
 
-      pub transitions_room : m + length transitions ≤ length f
-      transitions_room = left_room accepting_done transitions end_bytes refl (omega arith)
+      pub transitions_room : HasRoom e (length transitions)
+      transitions_room = left_room accepting_done transitions end_bytes refl room
 
-      module _ {g : List ℕ} {k : ℕ} (third : WrittenAt f m transitions g k) where
-        transitions_done : Left d 0 (written A) end_bytes g k
+      module _ {f : Cursor} (third : Added e transitions f) where
+        transitions_done : Left c (written A) end_bytes f
         transitions_done = left_more accepting_done transitions end_bytes refl third
 
-        pub end_room : k + length end_bytes ≤ length g
-        end_room = left_room transitions_done end_bytes [] refl (omega arith)
+        pub end_room : HasRoom f (length end_bytes)
+        end_room = left_room transitions_done end_bytes [] refl room
 
-        pub all_done : {h : List ℕ} {l : ℕ} → WrittenAt g k end_bytes h l → WrittenAt d 0 (written A) h l
+        pub all_done : {g : Cursor} → Added f end_bytes g → Added c (written A) g
         all_done last = left_end (left_more transitions_done end_bytes [] refl last) refl
