@@ -1,12 +1,12 @@
 -- Records written one after another, by a loop over the states of a set and by a loop over numbers: what is written and what is left make up all
 -- of them. Assumes nothing.
-use mathlib.Core.Path.{◌≡◌, refl, sym, ap, subst, ◌∙◌}
+use mathlib.Core.Path.{◌≡◌, sym, ap, subst, ◌∙◌}
 use mathlib.Core.List.{List, [], ◌∷◌, ◌++◌, map}
 use Prim.Native.Nat.{ℕ, ◌+◌, ◌-◌, ◌≤◌, ◌<◌}
 use native.Mathlib.Omega.{arith}
 use lib.ListN.{length}
 use Rattle.std.specs.Prelude.{All}
-use Rattle.std.proofs.lemmas.List.Elements.{All-rest, All-head}
+use Rattle.std.proofs.lemmas.List.Elements.{All-rest}
 use Rattle.automaton.specs.Ranges.{chained}
 use Rattle.automaton.proofs.Lists.{chained_start, chained_past, chained_end}
 use Rattle.format.specs.Writing.{Item, item_bytes, items_bytes}

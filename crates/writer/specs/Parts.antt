@@ -1,7 +1,7 @@
 -- The records of the fixed form part by part, as the code writes them; only contracts between functions name them.
 --   target_items A q a  the records of the transitions from q on letter a
 --   from_items A q      those of the transitions from q
--- Shown by `written_parts`. Assumes nothing.
+-- Shown by the contract of `put_transitions`: those from all states are `transition_items`. Assumes nothing.
 use Rattle.std.specs.Prelude.{List, map, ℕ}
 use Rattle.automaton.specs.declared.Automaton.{Automaton}
 use Rattle.automaton.specs.Ranges.{chained}

@@ -61,5 +61,10 @@ pub fn write_file(file: &[u8], out: &mut [u8]) -> Result<usize, WriteRefusal<Fil
 {
     let mut automaton = Automaton::empty();
     file::read(file, &mut automaton).map_err(WriteRefusal::Unread)?;
-    write(Valid { automaton: &automaton }, out)
+    write(
+        Valid {
+            automaton: &automaton,
+        },
+        out,
+    )
 }
