@@ -1,20 +1,21 @@
 // Opens the file first.ba, offers the file offer.ba to it at the bound that standard input gives as one byte, and prints the line.
 #![tactic(auto)]
 
+ghost use Rattle.std.specs.Prelude.{length};
 ghost use Rattle.input.specs.Counts.{IsPrefixLen};
 
 use input::read_full;
 use std::rt::Files;
 use std::{fs, io};
 
-// Reads a file to the front of the buffer, until its end or the buffer's, and answers how many bytes were read. A file that cannot be
+// Reads a file to the front of the buffer, until its end or the buffer's, and answers the part that was read to. A file that cannot be
 // opened counts as empty.
-fn load(rt: &impl Files, path: &str, buffer: &mut [u8]) -> usize
-    ensures { IsPrefixLen result buffer.new }
+fn load<'a>(rt: &impl Files, path: &str, buffer: &'a mut [u8]) -> &'a [u8]
+    ensures { IsPrefixLen (length result.now) buffer.old }
 {
     match fs::open(rt, path) {
         Ok(mut file) => read_full(&mut file, buffer),
-        Err(_) => 0,
+        Err(_) => &[],
     }
 }
 
@@ -24,14 +25,11 @@ fn main(rt: HostRuntime) -> io::Result<()> {
     let mut first = [0u8; report::MAX_FILE + 1];
     let mut offer = [0u8; report::MAX_FILE + 1];
     let mut line = [0u8; report::ROOM];
-    let given = read_full(&mut rt.stdin(), &mut input);
-    let opened = load(&rt, "first.ba", &mut first);
-    let offered = load(&rt, "offer.ba", &mut offer);
-    let n = report::listing_line(
-        &input[..given],
-        &first[..opened],
-        &offer[..offered],
+    let written = report::listing_line(
+        read_full(&mut rt.stdin(), &mut input),
+        load(&rt, "first.ba", &mut first),
+        load(&rt, "offer.ba", &mut offer),
         &mut line,
     );
-    rt.write_all(&line[..n])
+    rt.write_all(&line[..written.unwrap_or(0)])
 }

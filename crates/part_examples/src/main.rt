@@ -27,20 +27,12 @@ const J: [u8; 20] = [
     0x00, 0x01, 0x41, 0x45,
 ];
 
-// Prints a letter after a space.
-fn show_letter(rt: &impl Print, letter: u8) -> io::Result<()> {
-    rt.write_all(b" ")?;
-    rt.print(letter)
-}
-
-// Prints the letters of a part.
+// Prints the letters of a part, each after a space, and ends the line.
 fn show_part(rt: &impl Print, part: &[u8]) -> io::Result<()> {
-    let mut i: usize = 0;
-    while i < part.len() {
-        show_letter(rt, part[i])?;
-        i += 1;
+    for letter in part {
+        print!(rt; " {letter}")?;
     }
-    Ok(())
+    rt.println("")
 }
 
 // Prints the number of a call and the part that comes back.
@@ -54,10 +46,8 @@ fn show_call(
 ) -> io::Result<()> {
     let mut number: u64 = 0;
     let part = kernel::contain_part(first, second, bound, work, word, &mut number);
-    rt.print(number)?;
-    rt.write_all(b" part")?;
-    show_part(rt, part)?;
-    rt.write_all(b"\n")
+    print!(rt; "{number} part")?;
+    show_part(rt, part)
 }
 
 // K1, K3, K3 with 1 slot and with a word buffer of no bytes, K4, K5, K6 and a bound above 14.
@@ -75,7 +65,6 @@ fn main(rt: HostRuntime) -> io::Result<()> {
     show_call(&rt, &G, &F, 1, &mut seven, &mut word)?;
     show_call(&rt, &H, &J, 0, &mut work, &mut word)?;
     show_call(&rt, &F, &G, 15, &mut work, &mut word)?;
-    rt.write_all(b"word buffer")?;
-    show_part(&rt, &word)?;
-    rt.write_all(b"\n")
+    print!(rt; "word buffer")?;
+    show_part(&rt, &word)
 }
