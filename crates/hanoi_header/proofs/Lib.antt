@@ -1,3 +1,2 @@
 -- Laws of the header.
 pub mod ItemLaws
-pub mod HeaderLaws
