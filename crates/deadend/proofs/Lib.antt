@@ -1,2 +1,3 @@
 -- How the code of the dead-end test holds sets and relations.
+pub mod Tested
 pub mod WordDeadEnds

@@ -10,8 +10,8 @@ returns c =
     let A = c.args.valid.automaton.now in
     let closed = c.close.new.rows in
     let joined = c.add_diagonal.new.rows in
-    dead_at A c.args.valid.in_range c.edge_rows.new.rows c.edge_rows.ensures.first
-    closed (closed_rows_lem A.states c.edge_rows.new.rows closed c.close.ensures (omega arith))
+    dead_at A c.args.valid.in_range c.edge_rows-rows.result c.edge_rows-rows.ensures
+    closed (closed_rows_lem A.states c.edge_rows-rows.result closed c.close.ensures (omega arith))
     c.of_bytes.result c.on_loops-loops.result c.of_bytes.ensures c.on_loops-loops.ensures
     joined (diagonal_rows_lem A.states closed joined c.add_diagonal.ensures (omega arith))
     c.dead_among.result c.dead_among.ensures

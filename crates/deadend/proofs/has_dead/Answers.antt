@@ -1,6 +1,5 @@
 -- `deadend::has_dead` meets its contract: the set of dead states has a state where some state is dead. Assumes nothing.
 use mathlib.Core.Path.{◌∙◌}
-use borrow.Author.Rules.{rules}
 use Rattle.deadend.proofs.WordDeadEnds.{dead_any}
 use Rattle.deadend.proofs.has_dead.Goals as goal
 
