@@ -5,6 +5,8 @@ use Prim.Native.Nat.{ℕ, zero, suc, ◌+◌, ◌-◌, ◌*◌, ◌^◌, ◌≤�
 use native.Mathlib.Nat.{div-zero, div-lt_iff_lt-mul}
 use native.Mathlib.Omega.{arith}
 use lib.ListN.{length, length-append}
+use Rattle.std.specs.List.{All}
+use Rattle.std.proofs.lemmas.List.Elements.{All-tail}
 use Rattle.history.specs.declared.Entry.{Entry}
 use Rattle.history.specs.OfferAnswers.{OfferAnswer}
 use Rattle.history.specs.OfferAnswers.{Taken, Forward, Back, Refused, NoSlots, NoRoom}
@@ -15,11 +17,6 @@ use Rattle.text.proofs.Decimals.{decimal_length}
 -- a number of a machine word
 abbrev pub Word : ℕ → Type 0
 Word n = n < 2 ^ 64
-
--- the letters are bytes
-pub Bytes : List ℕ → Type 0
-Bytes [] = Unit
-Bytes (a ∷ w) = (a < 256) × Bytes w
 
 -- the numbers that the line shows are those of machine words
 pub record WordEntry (E : Entry) : Type 0 where
@@ -55,19 +52,20 @@ fields_length E h =
     let d = number_length p (omega arith) in
     simp length-append (omega arith)
 
-letters_length : (w : List ℕ) → Bytes w → length (letters w) ≤ 4 * length w
-unfolding letters Bytes
+letters_length : (w : List ℕ) → All (λ a. a < 256) w → length (letters w) ≤ 4 * length w
+unfolding letters
 letters_length [] h = omega arith
 letters_length (a ∷ w) h =
-    let first = decimal_length 2 a (omega (arith, h.0)) in
-    let rest = letters_length w h.1 in
+    let byte : a < 256 = h 0 0 (omega arith) in
+    let first = decimal_length 2 a (omega (arith, byte)) in
+    let rest = letters_length w (All-tail (λ x. x < 256) a w h) in
     simp length-append (omega arith)
 
 refused_length : (n : ℕ) → Word n → length (refused_line n) ≤ 29
 unfolding refused_line
 refused_length n h = let a = number_length n h in simp length-append (omega arith)
 
-pub offer_line_fits : (E : Entry) (x : OfferAnswer) (w : List ℕ) → WordEntry E → WordAnswer x → Bytes w
+pub offer_line_fits : (E : Entry) (x : OfferAnswer) (w : List ℕ) → WordEntry E → WordAnswer x → All (λ a. a < 256) w
     → length (offer_line E x w) ≤ line_room w
 unfolding offer_line
 offer_line_fits E (Taken m n) w e a b =

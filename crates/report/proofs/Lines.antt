@@ -33,21 +33,19 @@ refusal_shown E w (Walk i (NoSlots n)) = refl
 refusal_shown E w (Walk i (NoRoom len)) = refl
 
 -- the buffer has the bytes that are asked for, and the line is written to its front
-pub line_written : (m : ℕ) {l d e : List ℕ} {r : ℕ} → leb m (length d) ≡ true → WrittenAt d 0 l e r → Lined m l d e (Some r)
+line_written : (m : ℕ) {l d e : List ℕ} {r : ℕ} → true ≡ leb m (length d) → WrittenAt d 0 l e r → Lined m l d e (Some r)
 unfolding line_after answered_length
-line_written m {l} {d} {e} {r} h u = record {
-  bytes = u.bytes ∙ ap (λ (k : ℕ). l ++ drop k d) (zero-add (length l)) ∙ rw h;
-  answer = ap Some (u.behind ∙ zero-add (length l)) ∙ rw h;
-  within = subst (λ (k : ℕ). r ≤ k) (sym (written_keeps_length u)) u.within;
+line_written m {l} {d} h u = record {
+  bytes = u.bytes ∙ ap (λ (k : ℕ). l ++ drop k d) (zero-add (length l)) ∙ rw (sym h);
+  answer = ap Some (u.behind ∙ zero-add (length l)) ∙ rw (sym h);
+  within = rw (written_keeps_length u) u.within;
 }
 
 -- the same by a cursor that begins at the front of the buffer, where the buffer ends as the cursor leaves it
 pub line_added : (m : ℕ) {l b e : List ℕ} {c d : Cursor} → true ≡ leb m (length b) → c.out.now ≡ b → c.at ≡ 0 → Added c l d → e ≡ d.out.now
     → Lined m l b e (Some d.at)
-line_added m {l} {b} {e} {c} {d} h o z u q =
-    let v : WrittenAt b c.at l d.out.now d.at = subst (λ (x : List ℕ). WrittenAt x c.at l d.out.now d.at) o u.written in
-    let w : WrittenAt b 0 l d.out.now d.at = subst (λ (k : ℕ). WrittenAt b k l d.out.now d.at) z v in
-    line_written m (sym h) (subst (λ (x : List ℕ). WrittenAt b 0 l x d.at) (sym q) w)
+line_added m {l} {c = c} {d = d} h o z u q =
+    rw (q, sym o) (line_written m (rw o h) (subst (λ (k : ℕ). WrittenAt c.out.now k l d.out.now d.at) z u.written))
 
 -- it has not
 pub line_left : (m : ℕ) {l : List ℕ} (d : List ℕ) → false ≡ leb m (length d) → Lined m l d d None

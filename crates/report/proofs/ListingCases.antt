@@ -1,24 +1,18 @@
--- What the listing prints in each of its cases, and a written line where more room is asked for. Assumes nothing.
-use mathlib.Core.Path.{◌≡◌, sym, ap, ap₂, subst, ◌∙◌}
+-- The line of the offer that the listing makes, and a written line where more room is asked for. Assumes nothing.
+use mathlib.Core.Path.{◌≡◌, refl, ◌∙◌}
 use mathlib.Core.Bool.{true}
 use mathlib.Core.List.{List, ◌++◌}
-use Prim.Native.Nat.{ℕ, ◌+◌, ◌*◌, ◌≤◌, ◌<◌}
+use Prim.Native.Nat.{ℕ, ◌≤◌}
 use native.Mathlib.Omega.{arith}
-use borrow.Author.Tests.{le-leb, lt-ltb, le-ltb, eq-eqb, ne_eqb}
+use borrow.Author.Tests.{le-leb}
 use lib.Dec.{leb}
-use lib.ListN.{length, drop, take, get_or, replicate, length-replicate}
-use lib.Seq.{length-take-le}
+use lib.ListN.{length, drop, take, replicate}
 use Rattle.std.specs.Prelude.{Option, Some}
-use Rattle.history.proofs.OfferBuffers.{offer_part_le}
 use Rattle.history.specs.declared.Entry.{Entry}
 use Rattle.history.specs.OfferAnswers.{OfferAnswer}
-use Rattle.history.specs.OpenAnswers.{OpenAnswer}
-use Rattle.history.specs.OpenAnswers.{Opened, Refused}
-use Rattle.history.specs.Opens.{open_of}
 use Rattle.history.specs.Offers.{Offer, offer_of, offer_part, part_length}
-use Rattle.report.specs.Line.{newline, usage_text, long_text, refused_line, offer_line, line_after, answered_length, line_room, Lined}
-use Rattle.history.specs.Entries.{fresh_entry}
-use Rattle.report.specs.Listing.{max_file, work_bytes, word_bytes, offer_listing, open_listing, listing}
+use Rattle.report.specs.Line.{offer_line, line_after, answered_length, Lined}
+use Rattle.report.specs.Listing.{work_bytes, word_bytes, offer_listing}
 
 -- the same line, where more room is asked for and is there
 pub lined_more : {m k : ℕ} {l d e : List ℕ} {n : Option ℕ} → m ≤ k → k ≤ length d → Lined m l d e n → Lined k l d e n
@@ -30,32 +24,13 @@ lined_more {m} {k} {l} {d} {e} {n} h r u =
     let answer : n ≡ Some (length l) = u.answer ∙ rw less in
     record { bytes = bytes ∙ rw more; answer = answer ∙ rw more; within = u.within }
 
--- the line by another name
-pub lined_as : {m : ℕ} {l k d e : List ℕ} {n : Option ℕ} → l ≡ k → Lined m l d e n → Lined m k d e n
-lined_as {m} {l} {k} {d} {e} {n} q u = subst (λ (x : List ℕ). Lined m x d e n) q u
-
 -- the offer of the listing, with buffers of zeros
 abbrev offer_made : Entry → List ℕ → ℕ → Offer
 offer_made E offer b = offer_of E offer b (replicate work_bytes 0) (replicate word_bytes 0)
 
 -- the line of an offer's answer and entry, and of the front of the word buffer that it leaves
-pub listing_offered : (E : Entry) (offer : List ℕ) (b : ℕ) (x : OfferAnswer) (F : Entry) (word part : List ℕ) → x ≡ (offer_made E offer b).answer
+pub listing_offered : (E : Entry) (offer : List ℕ) (b : ℕ) {x : OfferAnswer} {F : Entry} {word part : List ℕ} → x ≡ (offer_made E offer b).answer
     → F ≡ (offer_made E offer b).entry → word ≡ (offer_made E offer b).word → part ≡ take (part_length x) word
-    → offer_line F x part ≡ offer_listing E offer b
+    → offer_listing E offer b ≡ offer_line F x part
 unfolding offer_listing offer_part
-listing_offered E offer b x F word part d e w p =
-    ap (offer_line F x) (p ∙ ap₂ (λ (y : OfferAnswer) (l : List ℕ). take (part_length y) l) d w)
-    ∙ ap₂ (λ (y : OfferAnswer) (G : Entry). offer_line G y (take (part_length (offer_made E offer b).answer) (offer_made E offer b).word)) d e
-
--- the written part of the word buffer stands in it
-pub part_le : (E : Entry) (offer : List ℕ) (b : ℕ) (x : OfferAnswer) → x ≡ (offer_made E offer b).answer → part_length x ≤ word_bytes
-part_le E offer b x d =
-    subst (λ (y : OfferAnswer). part_length y ≤ word_bytes) (sym d)
-    (subst (λ (k : ℕ). part_length (offer_made E offer b).answer ≤ k) (length-replicate {A = ℕ} word_bytes 0)
-    (offer_part_le E offer b (replicate work_bytes 0) (replicate word_bytes 0)))
-
--- the room that is asked for its line
-pub part_room : (E : Entry) (offer : List ℕ) (b : ℕ) (x : OfferAnswer) (word part : List ℕ) → x ≡ (offer_made E offer b).answer
-    → length word ≡ word_bytes → part ≡ take (part_length x) word → line_room part ≤ 256 + 4 * word_bytes
-part_room E offer b x word part d long p =
-    let h = part_le E offer b x d in omega (arith, h, ap length p, length-take-le (part_length x) word (omega (arith, h, long)))
+listing_offered E offer b d e w p = rw (p, d, e, w) refl

@@ -3,11 +3,11 @@
 use Rattle.std.proofs.Common.{sym, arith}
 use borrow.Author.Tests.{lt-leb}
 use Rattle.report.proofs.Lines.{line_left}
-use Rattle.report.proofs.ListingCases.{lined_more, lined_as}
+use Rattle.report.proofs.ListingCases.{lined_more}
 use Rattle.report.proofs.listings.listing_line.Goals as goal
 
 pub returns-then-line-lt-ROOM : goal.returns-then-line-lt-ROOM
 returns-then-line-lt-ROOM c = line_left _ _ (sym (lt-leb 8448 _ c.if-line-lt-ROOM.true))
 
 pub returns-in-Err : goal.returns-in-Err
-returns-in-Err c = lined_as c.in-Err.ensures (lined_more (omega arith) c.if-line-lt-ROOM.false c.misuse_line.ensures)
+returns-in-Err c = rw (sym c.in-Err.ensures) (lined_more (omega arith) c.if-line-lt-ROOM.false c.misuse_line.ensures)
