@@ -19,7 +19,8 @@ use Rattle.automaton.specs.Ranges.{those, table, largest}
 use Rattle.automaton.proofs.Ranges.{those_has, table_at}
 use Rattle.automaton.proofs.Booleans.{is_true}
 use Rattle.step.specs.Masks.{row_place}
-use Rattle.step.specs.Steps.{present_states, places_after, PresentOf}
+use Rattle.relations.proofs.Rows.{table_same}
+use Rattle.step.specs.Steps.{largest_masked, all_largest, present_states, places_after, PresentOf}
 use Rattle.step.proofs.Largest.{largest_more, largest_le, largest_bound}
 
 -- Lists of the numbers that pass: one number more, how many there are, and where each stands.
@@ -109,18 +110,30 @@ module _ (f : List ℕ) (n : ℕ) where
       least : largest g n 0 ≤ largest of_place count 0
       least = largest_le g n _ (λ p h. one p h (ltb 0 (get_or f p 0)) refl)
 
+-- a place of the list has one of the states
+pub listed_below : (items : List ℕ) (i : ℕ) (count : ℕ) (places f : List ℕ) (n : ℕ) → PresentOf count places f n → items ≡ take count places
+    → i < length items → get_or items i 0 < n
+listed_below items i count places f n P e h =
+    let is : items ≡ present_states f n = e ∙ P.places_are in
+    rw is (present_below f n i (omega (arith, ap length is)))
+
 -- The states below p are listed, one after the other.
 
 pub record Listing (f : List ℕ) (count : ℕ) (places : List ℕ) (p : ℕ) : Type 0 where
   pub long : length places ≡ max_states
   pub listed : PresentOf count places f p
+  pub few : count ≤ p
+  pub made : places ≡ places_after f p
 
-pub listing_few : (f : List ℕ) (count : ℕ) (places : List ℕ) (p : ℕ) → Listing f count places p → count ≤ p
-listing_few f count places p L = let few = present_few f p in omega (arith, L.listed.count_is)
-
-pub listing_none : (f places : List ℕ) → length places ≡ max_states → Listing f 0 places 0
-unfolding those
-listing_none f places l = record { long = l; listed = record { count_is = refl; places_are = refl; bytes = λ q h. absurd (omega arith) } }
+pub listing_none : (f : List ℕ) → Listing f 0 (replicate max_states 0) 0
+unfolding those places_after
+listing_none f =
+    record {
+      long = refl;
+      listed = record { count_is = refl; places_are = refl; bytes = λ q h. absurd (omega arith) };
+      few = omega arith;
+      made = refl;
+    }
 
 module _ (f : List ℕ) (count : ℕ) (places : List ℕ) (p : ℕ) (L : Listing f count places p) (room : p < max_states) where
   states_more : present_states f (p + 1) ≡ present_states f p ++ cond (ltb 0 (get_or f p 0)) (p ∷ []) []
@@ -130,15 +143,14 @@ module _ (f : List ℕ) (count : ℕ) (places : List ℕ) (p : ℕ) (L : Listing
       ∙ ap (λ (k : ℕ). present_states f p ++ cond (ltb 0 (get_or f k 0)) (k ∷ []) []) (zero-add p)
 
   pub listing_next : (m : ℕ) → m ≡ cond (ltb 0 (get_or f p 0)) (count + 1) count → get_or f p 0 < 256 → Listing f m (set places count p) (p + 1)
+  unfolding places_after
   listing_next m e small =
+      let w = made (ltb 0 (get_or f p 0)) refl m e in
       record {
         long = length-set places count p ∙ L.long;
-        listed =
-            record {
-              count_is = (made (ltb 0 (get_or f p 0)) refl m e).0;
-              places_are = (made (ltb 0 (get_or f p 0)) refl m e).1;
-              bytes = below_more (λ q. get_or f q 0 < 256) p L.listed.bytes small;
-            };
+        listed = record { count_is = w.0; places_are = w.1; bytes = below_more (λ q. get_or f q 0 < 256) p L.listed.bytes small };
+        few = omega (arith, w.0, present_few f (p + 1));
+        made = ap₂ (λ (l : List ℕ) (k : ℕ). set l k p) L.made L.listed.count_is ∙ ap (places_after f) (sym (add-one p));
       }
     where
       made : (c : Bool) → ltb 0 (get_or f p 0) ≡ c → (m : ℕ) → m ≡ cond c (count + 1) count
@@ -148,7 +160,7 @@ module _ (f : List ℕ) (count : ℕ) (places : List ℕ) (p : ℕ) (L : Listing
           states_more ∙ ap (λ (c : Bool). present_states f p ++ cond c (p ∷ []) []) t in (
             omega (arith, L.listed.count_is, ap length more, length-append (present_states f p) (p ∷ [])),
             ap (λ (k : ℕ). take k (set places count p)) (d ∙ add-one count)
-                ∙ take-suc-set places count p (omega (arith, L.long, listing_few f count places p L))
+                ∙ take-suc-set places count p (omega (arith, L.long, L.few))
                 ∙ ap (λ (l : List ℕ). l ++ p ∷ []) L.listed.places_are
                 ∙ sym more,
           )
@@ -162,32 +174,43 @@ module _ (f : List ℕ) (count : ℕ) (places : List ℕ) (p : ℕ) (L : Listing
                 ∙ sym more,
           )
 
-pub places_none : (f : List ℕ) → replicate max_states 0 ≡ places_after f 0
-unfolding places_after
-places_none f = refl
-
-pub places_next : (f : List ℕ) (count : ℕ) (places : List ℕ) (p : ℕ) → places ≡ places_after f p → count ≡ length (present_states f p)
-    → set places count p ≡ places_after f (p + 1)
-unfolding places_after
-places_next f count places p e c =
-    ap₂ (λ (l : List ℕ) (k : ℕ). set l k p) e c ∙ ap (places_after f) (sym (add-one p))
-
 -- The largest counters of the predecessors, one listed state after the other.
 
 -- the counter of p as its mask for r shows it
 abbrev pub masked_counter : List ℕ → ℕ → ℕ → List ℕ → ℕ → ℕ → ℕ
 masked_counter m n a f r p = min (get_or f p 0) (get_or m (row_place n a p + r) 0)
 
--- the state p at place i of the list raises its targets to its counter
-pub largest_raised : (m : List ℕ) (n a : ℕ) (f ps : List ℕ) (i p : ℕ) (l l' : List ℕ) → p ≡ get_or ps i 0
-    → l' ≡ table (λ r. max (get_or l r 0) (masked_counter m n a f r p)) max_states 0
-    → ((r : ℕ) → r < max_states → get_or l r 0 ≡ largest (λ j. masked_counter m n a f r (get_or ps j 0)) i 0)
-    → (r : ℕ) → r < max_states → get_or l' r 0 ≡ largest (λ j. masked_counter m n a f r (get_or ps j 0)) (i + 1) 0
-largest_raised m n a f ps i p l l' e made so_far r h =
-    ap (λ (z : List ℕ). get_or z r 0) made
-    ∙ table_at (λ r. max (get_or l r 0) (masked_counter m n a f r p)) max_states r 0 h
-    ∙ ap₂ max (so_far r h) (ap (masked_counter m n a f r) e)
-    ∙ sym
-    (ap (λ (k : ℕ). largest (λ j. masked_counter m n a f r (get_or ps j 0)) k 0) (add-one i)
-    ∙ largest_more (λ j. masked_counter m n a f r (get_or ps j 0)) i 0
-    ∙ ap (λ (k : ℕ). max (largest (λ j. masked_counter m n a f r (get_or ps j 0)) i 0) (masked_counter m n a f r (get_or ps k 0))) (zero-add i))
+module _ (m : List ℕ) (n a : ℕ) (f : List ℕ) where
+  -- for each right state the largest counter of its predecessors among the first i states of a list
+  unfoldable pub raised_by : List ℕ → ℕ → List ℕ
+  raised_by ps i = table (λ r. largest (λ j. masked_counter m n a f r (get_or ps j 0)) i 0) max_states 0
+
+  pub raised_none : (ps : List ℕ) → replicate max_states 0 ≡ raised_by ps 0
+  unfolding raised_by table largest
+  raised_none ps = refl
+
+  -- the next state of the list raises its targets to its counter
+  pub raised_more : (ps : List ℕ) (i : ℕ) (l l' : List ℕ) → l ≡ raised_by ps i
+      → l' ≡ table (λ r. max (get_or l r 0) (masked_counter m n a f r (get_or ps i 0))) max_states 0 → l' ≡ raised_by ps (i + 1)
+  unfolding raised_by
+  raised_more ps i l l' e made =
+      made
+      ∙ table_same (λ r. max (get_or l r 0) (masked_counter m n a f r (get_or ps i 0)))
+      (λ r. largest (λ j. masked_counter m n a f r (get_or ps j 0)) (i + 1) 0) max_states
+      (λ r h.
+      ap (λ (z : List ℕ). max (get_or z r 0) (masked_counter m n a f r (get_or ps i 0))) e
+      ∙ ap (λ (x : ℕ). max x (masked_counter m n a f r (get_or ps i 0)))
+      (table_at (λ q. largest (λ j. masked_counter m n a f q (get_or ps j 0)) i 0) max_states r 0 h)
+      ∙ sym (rw (add-one, largest_more (λ j. masked_counter m n a f r (get_or ps j 0)) i 0, zero-add i)))
+
+  pub raised_all : (ps places : List ℕ) (i count : ℕ) → PresentOf count places f n → ps ≡ take count places → i ≡ length ps
+      → raised_by ps i ≡ all_largest m n a f
+  unfolding raised_by all_largest
+  raised_all ps places i count P e all =
+      let is : ps ≡ present_states f n = e ∙ P.places_are in
+      ap (raised_by ps) all
+      ∙ ap (λ (qs : List ℕ). raised_by qs (length qs)) is
+      ∙ table_same (λ r. largest (λ j. masked_counter m n a f r (get_or (present_states f n) j 0)) (length (present_states f n)) 0)
+      (largest_masked m n a f) max_states (λ r h. largest_listed f n (masked_counter m n a f r) (λ p i z. omega arith))
+
+pub ruleset raising = (listed_below, raised_none, raised_more, raised_all)

@@ -18,6 +18,7 @@ use slots::Vertex;
 
 // Raises the targets of a right state to its counter; their masks stand from place `at` on. The smaller of a counter and a mask is the counter
 // where the mask is 255, and 0 where it is 0.
+#[tactic(auto, using(crate::proofs::SteppedBytes::written_all))]
 fn raised(masks: &[u8], at: usize, counter: u8, largest: [u8; 32]) -> [u8; 32]
     requires { at + max_states ≤ length masks.now }
     ensures { result ≡ table (λ r. max (get_or largest r 0) (min counter (get_or masks.now (at + r) 0))) max_states 0 }
@@ -30,6 +31,7 @@ fn raised(masks: &[u8], at: usize, counter: u8, largest: [u8; 32]) -> [u8; 32]
 }
 
 // For each right state the largest counter of its predecessors on a letter. Only the states that are listed have one above 0.
+#[tactic(auto, using(crate::proofs::PresentStates::raising))]
 pub fn largest_into(
     masks: &[u8],
     states: usize,
@@ -56,14 +58,14 @@ pub fn largest_into(
 }
 
 // For each right state the counter that it is raised to: `top` where it accepts, and 0 where it does not.
+#[tactic(auto, unfolding(crate::specs::Steps::tops_of), using(crate::proofs::SteppedBytes::written_all))]
 pub fn tops_of(automaton: &Automaton, top: u8) -> [u8; 32]
     ensures { result ≡ tops_of automaton.now.accepting top }
 {
     let mut tops = [0u8; 32];
     for r in 0..MAX_STATES {
-        if is_member(&automaton.accepting, r) {
-            tops[r] = top;
-        }
+        let accepts = is_member(&automaton.accepting, r);
+        tops[r] = if accepts { top } else { 0 };
     }
     tops
 }
@@ -85,6 +87,7 @@ fn counter_at(top: u8, visits: bool, largest: u8) -> u8
 }
 
 // The counters of all right states after a step to a left target; `visits` says whether the target accepts.
+#[tactic(auto, unfolding(crate::specs::Steps::stepped_counters), using(crate::proofs::SteppedBytes::written_all))]
 pub fn counters_after(tops: &[u8; 32], visits: bool, largest: [u8; 32]) -> [u8; 32]
     ensures { result ≡ stepped_counters tops.now (one visits) largest }
 {
@@ -108,6 +111,7 @@ fn first_counter(left_accepts: bool, right_accepts: bool, bound: usize) -> u8
 }
 
 // The initial vertex of two automata.
+#[tactic(auto, using(crate::proofs::Steps::initial_made))]
 pub fn initial_vertex(left: &Automaton, right: &Automaton, bound: usize) -> Vertex
     requires { (left.now.initial < max_states) × (right.now.initial < max_states) × (bound ≤ max_bound) }
     ensures { result ≡ initial_from left.now.initial left.now.accepting right.now.initial right.now.accepting bound }

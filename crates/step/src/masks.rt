@@ -14,6 +14,7 @@ fn mask(test: bool) -> u8
 }
 
 // Writes the masks of the targets of p on a letter; the other bytes stay.
+#[tactic(auto, using(relations::proofs::Rows::changed_none, relations::proofs::Rows::changed_more))]
 fn fill_row(masks: &mut [u8], automaton: &Automaton, p: usize, letter: usize)
     requires { (p < max_states) × (letter < max_letters) × (row_place automaton.now.states letter p + max_states ≤ length masks.old) }
     ensures { masks.new ≡ row_masks automaton.now.transitions automaton.now.states p letter masks.old }
@@ -25,6 +26,7 @@ fn fill_row(masks: &mut [u8], automaton: &Automaton, p: usize, letter: usize)
 }
 
 // Writes the masks of the automaton's states on a letter; the other bytes stay.
+#[tactic(auto, using(crate::proofs::MaskRows::rows_none, crate::proofs::MaskRows::rows_next))]
 fn fill_letter(masks: &mut [u8], automaton: &Automaton, letter: usize)
     requires { (automaton.now.states ≤ max_states) × (letter < max_letters)
         × (row_place automaton.now.states letter automaton.now.states ≤ length masks.old) }
@@ -36,6 +38,7 @@ fn fill_letter(masks: &mut [u8], automaton: &Automaton, letter: usize)
 }
 
 // Writes the masks of the automaton's states on the letters below `letters`, those of the left automaton; the other bytes stay.
+#[tactic(auto, unfolding(crate::specs::Masks::masks_after), using(crate::proofs::MaskRows::letters_next))]
 pub fn fill(masks: &mut [u8], automaton: &Automaton, letters: usize)
     requires { (automaton.now.states ≤ max_states) × (letters ≤ max_letters) × (letters * automaton.now.states * max_states ≤ length masks.old) }
     ensures { masks.new ≡ masks_after automaton.now.transitions automaton.now.states letters masks.old }
