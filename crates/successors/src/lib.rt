@@ -2,156 +2,114 @@
 // are kept, so that a step whose targets are all listed costs a few words.
 #![tactic(auto)]
 
-ghost use Rattle.std.specs.Prelude.{◌≡◌, cond, map, ℕ, ◌+◌, ◌<◌, ◌≤◌, ◌≢◌, eqb, length, get_or};
-ghost use Rattle.automaton.specs.declared.Automaton.{Automaton};
-ghost use Rattle.automaton.specs.Automata.{max_states, max_letters, targets};
-ghost use Rattle.slots.specs.Slots.{slot_count};
-ghost use Rattle.classes.specs.Classes.{class_of, key_of, keys, Chained};
+ghost use Rattle.std.specs.Prelude.{◌≡◌, true, map, ℕ, ◌+◌, ◌<◌, ◌≤◌, ◌≢◌, length, get_or, IfOk};
+ghost use Rattle.automaton.specs.Automata.{max_states, targets};
+ghost use Rattle.automaton.specs.Sets.{bit};
+ghost use Rattle.slots.specs.Slots.{slot_count, max_slots};
+ghost use Rattle.classes.specs.Classes.{class_of, Chained};
 ghost use Rattle.graph.specs.Discovery.{below, discover_all};
 ghost use Rattle.graph.specs.LagGraph.{successor, lag_graph};
-ghost use Rattle.step.specs.Masks.{row_place};
 ghost use Rattle.step.specs.Steps.{PresentOf};
-ghost use Rattle.discovery.specs.Representation.{vertex_of, Becomes, Ready, ReadyAfter, Grows};
-ghost use Rattle.successors.specs.Rules.{RulesOf};
-ghost use Rattle.successors.specs.Targets.{TargetsUnlisted};
+ghost use Rattle.discovery.specs.Representation.{vertex_of, Becomes, Ready, Grows};
+ghost use Rattle.successors.specs.Targets.{TargetsUnlisted, Known};
 ghost use Rattle.kept.specs.Kept.{KeptStep};
 
-use discovery::{Sides, Walked};
+mod rules;
 
-// What a walk needs of the two automata besides the arrays that are lent: the number of letters, the right one's number of states, and the
-// accepting states of the left one as a set in a word.
-#[derive(Clone, Copy)]
-pub struct Rules {
-    pub letters: usize,
-    pub states: usize,
-    pub accepting: u32,
-}
+use classes::Index;
+use discovery::{Edge, Side, Sides, Stop};
+pub use rules::Rules;
+use slots::Vertex;
+use step::present::Present;
 
-// The class of the counters after a step, where there is a target; else the class that is kept.
-fn class_after(
+// The counters after a step with their key, and their class where there is a target; else the class that is kept.
+fn side_of<'a>(
     work: &[u8],
-    heads: &[u16],
-    nexts: &[u16],
+    index: &Index,
     n: usize,
-    counters: &[u8; 32],
-    key: usize,
+    counters: &'a [u8; 32],
     kept: usize,
     targets: u32,
-) -> usize
-    requires { (n ≤ slot_count (length work.now)) × (key ≡ key_of counters.now) × (key < keys) × Chained work.now heads.now nexts.now n }
-    ensures { result ≡ cond (eqb targets 0) kept (class_of work.now counters.now n) }
+) -> Side<'a>
+    requires { (n ≤ slot_count (length work.now)) × Chained work.now index.now n × Known work.now counters.now n kept }
+    ensures counters { result.counters.now ≡ counters.now }
+    ensures known { Known work.now result.counters.now n result.class }
+    ensures class { (t : ℕ) → bit targets t ≡ true → result.class ≡ class_of work.now result.counters.now n }
 {
-    if targets == 0 {
-        return kept;
-    }
-    classes::class_of(work, heads, nexts, n, *counters, key)
-}
-
-// Keys and classes of the counters after a step, on both sides. The class of a side without a target is the one that is kept.
-fn sides_of(
-    work: &[u8],
-    heads: &[u16],
-    nexts: &[u16],
-    n: usize,
-    lowered: &[u8; 32],
-    others: &[u8; 32],
-    low_kept: usize,
-    other_kept: usize,
-    low: u32,
-    other: u32,
-) -> Sides
-    requires { (n ≤ slot_count (length work.now)) × Chained work.now heads.now nexts.now n }
-    ensures low { (result.lowkey ≡ key_of lowered.now) × (result.lowkey < keys)
-        × (result.lowclass ≡ cond (eqb low 0) low_kept (class_of work.now lowered.now n)) }
-    ensures other { (result.otherkey ≡ key_of others.now) × (result.otherkey < keys)
-        × (result.otherclass ≡ cond (eqb other 0) other_kept (class_of work.now others.now n)) }
-{
-    let lowkey = classes::key_of(lowered);
-    let otherkey = classes::key_of(others);
-    let lowclass = class_after(work, heads, nexts, n, lowered, lowkey, low_kept, low);
-    let otherclass = class_after(work, heads, nexts, n, others, otherkey, other_kept, other);
-    Sides {
-        lowkey,
-        lowclass,
-        otherkey,
-        otherclass,
+    let key = classes::key_of(counters);
+    let class = if targets == 0 {
+        kept
+    } else {
+        index.class_of(work, n, *counters, key)
+    };
+    Side {
+        counters,
+        key,
+        class,
     }
 }
 
 // The targets of both sides that are not listed with the class of their side.
-fn targets_unlisted(listed: &[u32], lowclass: usize, otherclass: usize, low: u32, other: u32) -> u32
-    requires { (lowclass ≤ length listed.now) × (otherclass ≤ length listed.now) }
-    ensures { TargetsUnlisted listed.now lowclass otherclass low other result }
+fn targets_unlisted(
+    index: &Index,
+    low_class: usize,
+    other_class: usize,
+    low: u32,
+    other: u32,
+) -> u32
+    requires { (low_class ≤ max_slots) × (other_class ≤ max_slots) }
+    ensures { TargetsUnlisted index.now low_class other_class low other result }
 {
-    classes::unlisted(listed, lowclass, low) | classes::unlisted(listed, otherclass, other)
+    index.unlisted(low_class, low) | index.unlisted(other_class, other)
 }
 
-// The successors on a letter of the vertex at place p, which has this left state and these counters. The step's classes are kept at two places
-// from `at` on: where they are known and all targets are listed with them, nothing is done.
+// The successors of the vertex v on the letter of an edge, which leads from its place. The step's classes are kept at two places from `at` on:
+// where they are known and all targets are listed with them, nothing is done. The answer is the number of vertices listed.
 pub fn expand_letter(
-    rules: Rules,
-    tops: &[u8; 32],
-    lefts: &[u8; 2048],
-    masks: &[u8],
+    rules: &Rules,
     work: &mut [u8],
-    heads: &mut [u16],
-    nexts: &mut [u16],
-    listed: &mut [u32],
+    index: &mut Index,
     kept: &mut [u16],
     n: usize,
-    p: usize,
-    left: usize,
-    counters: &[u8; 32],
-    count: usize,
-    places: &[u8; 32],
-    letter: usize,
+    edge: Edge,
+    v: &Vertex,
+    present: &Present,
     at: usize,
-) -> Walked
-    requires { Ready work.old heads.old nexts.old listed.old n × (p < 65536) × (left < max_states) × (letter < rules.letters)
-        × (rules.letters ≤ max_letters) × (rules.states ≤ max_states) × (row_place rules.states rules.letters 0 ≤ length masks.now)
-        × PresentOf count places.now counters.now rules.states × (at + 2 ≤ length kept.old)
-        × KeptStep tops.now masks.now rules.states work.old n kept.old at letter counters.now }
-    ensures represents { (A B : Automaton) (b : ℕ) → RulesOf rules tops.now lefts.now masks.now A B b
-        → Becomes work.old n work.new result
-        (λ S w. discover_all (lag_graph A B b) (below S) p w
-        (map (successor A B b (vertex_of left counters.now) letter) (targets A left letter))) }
-    ensures ready { ReadyAfter result work.new heads.new nexts.new listed.new }
+) -> Result<usize, Stop>
+    requires { Ready work.old index.old n × (v.now.left < max_states) × (edge.letter < rules.now.left.automaton.now.letters)
+        × PresentOf present.now.count present.now.places v.now.counters rules.now.right.automaton.now.states × (at + 2 ≤ length kept.old)
+        × KeptStep rules.now.tops.now rules.now.masks.now rules.now.right.automaton.now.states work.old n kept.old at edge.letter
+        v.now.counters }
+    ensures represents { let A = rules.now.left.automaton.now in let B = rules.now.right.automaton.now in
+        Becomes work.old n work.new result
+        (λ S w. discover_all (lag_graph A B rules.now.bound) (below S) edge.parent w
+        (map (successor A B rules.now.bound (vertex_of v.now.left v.now.counters) edge.letter) (targets A v.now.left edge.letter))) }
+    ensures ready { IfOk result (λ m. Ready work.new index.new m) }
     ensures grows { Grows work.old n work.new result }
-    ensures step { KeptStep tops.now masks.now rules.states work.old n kept.new at letter
-        counters.now }
+    ensures step { KeptStep rules.now.tops.now rules.now.masks.now rules.now.right.automaton.now.states work.old n kept.new at edge.letter
+        v.now.counters }
     ensures others { (i : ℕ) → i ≢ at → i ≢ at + 1 → get_or kept.new i 0 ≡ get_or kept.old i 0 }
 {
-    let targets = relations::row(lefts, left, letter);
+    let letter = edge.letter as usize;
+    let targets = relations::row(rules.left.automaton, v.left as usize, letter);
     let low = targets & rules.accepting;
     let other = targets ^ low;
     let low_kept = kept[at] as usize;
     let other_kept = kept[at + 1] as usize;
-    if targets_unlisted(listed, low_kept, other_kept, low, other) == 0 {
-        return Walked::Going(n);
+    if targets_unlisted(index, low_kept, other_kept, low, other) == 0 {
+        return Ok(n);
     }
-    let largest = step::largest_into(masks, rules.states, letter, count, places, counters);
-    let lowered = step::counters_after(tops, 1, largest);
-    let others = step::counters_after(tops, 0, largest);
-    let sides = sides_of(
-        work, heads, nexts, n, &lowered, &others, low_kept, other_kept, low, other,
-    );
-    let lowclass = sides.lowclass;
-    let otherclass = sides.otherclass;
-    kept[at] = lowclass as u16;
-    kept[at + 1] = otherclass as u16;
-    let unlisted = targets_unlisted(listed, lowclass, otherclass, low, other);
-    discovery::discover_targets(
-        work,
-        heads,
-        nexts,
-        listed,
-        n,
-        p,
-        letter as u8,
-        rules.accepting,
-        unlisted,
-        &lowered,
-        &others,
-        sides,
-    )
+    let states = rules.right.automaton.states;
+    let largest = step::largest_into(rules.masks, states, letter, present, &v.counters);
+    let lowered = step::counters_after(rules.tops, true, largest);
+    let others = step::counters_after(rules.tops, false, largest);
+    let sides = Sides {
+        accepting: rules.accepting,
+        low: side_of(work, index, n, &lowered, low_kept, low),
+        other: side_of(work, index, n, &others, other_kept, other),
+    };
+    kept[at] = sides.low.class as u16;
+    kept[at + 1] = sides.other.class as u16;
+    let unlisted = targets_unlisted(index, sides.low.class, sides.other.class, low, other);
+    discovery::discover_targets(work, index, n, edge, unlisted, sides)
 }
