@@ -2,17 +2,16 @@
 // are kept, so that a step whose targets are all listed costs a few words.
 #![tactic(auto)]
 
-ghost use Rattle.std.specs.Prelude.{◌≡◌, true, map, ℕ, ◌+◌, ◌<◌, ◌≤◌, ◌≢◌, length, get_or, IfOk};
-ghost use Rattle.automaton.specs.Automata.{max_states, targets};
+ghost use Rattle.std.specs.Prelude.{◌≡◌, true, ℕ, ◌+◌, ◌<◌, ◌≤◌, ◌≢◌, length, get_or, IfOk};
+ghost use Rattle.automaton.specs.Automata.{max_states};
 ghost use Rattle.automaton.specs.Sets.{bit};
 ghost use Rattle.slots.specs.Slots.{slot_count, max_slots};
 ghost use Rattle.classes.specs.Classes.{class_of, Chained};
 ghost use Rattle.graph.specs.Discovery.{below, discover_all};
-ghost use Rattle.graph.specs.LagGraph.{successor, lag_graph};
 ghost use Rattle.step.specs.Steps.{PresentOf};
-ghost use Rattle.discovery.specs.Representation.{vertex_of, Becomes, Ready, Grows};
+ghost use Rattle.discovery.specs.Representation.{Becomes, Ready, Grows};
 ghost use Rattle.successors.specs.Targets.{TargetsUnlisted, Known};
-ghost use Rattle.kept.specs.Kept.{KeptStep};
+ghost use Rattle.successors.specs.Steps.{graph_of, edges_on, StepKept};
 
 mod rules;
 
@@ -78,16 +77,12 @@ pub fn expand_letter(
 ) -> Result<usize, Stop>
     requires { Ready work.old index.old n × (v.now.left < max_states) × (edge.letter < rules.now.left.automaton.now.letters)
         × PresentOf present.now.count present.now.places v.now.counters rules.now.right.automaton.now.states × (at + 2 ≤ length kept.old)
-        × KeptStep rules.now.tops.now rules.now.masks.now rules.now.right.automaton.now.states work.old n kept.old at edge.letter
-        v.now.counters }
-    ensures represents { let A = rules.now.left.automaton.now in let B = rules.now.right.automaton.now in
-        Becomes work.old n work.new result
-        (λ S w. discover_all (lag_graph A B rules.now.bound) (below S) edge.parent w
-        (map (successor A B rules.now.bound (vertex_of v.now.left v.now.counters) edge.letter) (targets A v.now.left edge.letter))) }
+        × StepKept rules.now work.old n kept.old at edge.letter v.now.counters }
+    ensures represents { Becomes work.old n work.new result
+        (λ S w. discover_all (graph_of rules.now) (below S) edge.parent w (edges_on rules.now v.now edge.letter)) }
     ensures ready { IfOk result (λ m. Ready work.new index.new m) }
     ensures grows { Grows work.old n work.new result }
-    ensures step { KeptStep rules.now.tops.now rules.now.masks.now rules.now.right.automaton.now.states work.old n kept.new at edge.letter
-        v.now.counters }
+    ensures step { StepKept rules.now work.old n kept.new at edge.letter v.now.counters }
     ensures others { (i : ℕ) → i ≢ at → i ≢ at + 1 → get_or kept.new i 0 ≡ get_or kept.old i 0 }
 {
     let letter = edge.letter as usize;

@@ -20,7 +20,8 @@ use Rattle.graph.proofs.Discoveries.{at_left, at_last, length_snoc}
 use Rattle.graph.proofs.Parents.{Linked}
 use Rattle.graph.proofs.Words.{word_step}
 use Rattle.graph.proofs.WalkTheorem.{walk_ended, list_links, list_in_range}
-use Rattle.discovery.specs.declared.Walked.TheVariants.{Ended}
+use Rattle.std.specs.Prelude.{Err}
+use Rattle.discovery.specs.declared.Stop.TheVariants.{Final}
 use Rattle.discovery.specs.Representation.{Wide, Represents}
 use Rattle.discovery.proofs.RepresentedSlots.{slot_represented, represented_length}
 use Rattle.walk.specs.FinalWord.{final_word_in}
@@ -120,10 +121,10 @@ module _ (work : List ℕ) (place letter parent : ℕ) (E : FoundFinal work plac
       (ended E.nodes E.last) fits i
       (omega (arith, long))).all_counters)
 
-  represents : Represents work (Ended place letter parent) E.start (ended E.nodes E.last)
+  represents : Represents work (Err (Final place letter parent)) E.start (ended E.nodes E.last)
   represents =
       record {
-        answer = ap₂ (λ (x : ℕ × ℕ) (p : ℕ). Ended x.0 x.1 p) (ap₂ (λ (x y : ℕ). (x, y)) E.place_is E.letter_is)
+        answer = ap₂ (λ (x : ℕ × ℕ) (p : ℕ). Err (Final x.0 x.1 p)) (ap₂ (λ (x y : ℕ). (x, y)) E.place_is E.letter_is)
             E.parent_is;
         bytes = E.bytes;
         wide = wide;
@@ -132,7 +133,7 @@ module _ (work : List ℕ) (place letter parent : ℕ) (E : FoundFinal work plac
 
   slot : (i : ℕ) → i < length E.nodes → (letter_at work i ≡ (at graph list i).letter) × (parent_at work i ≡ (at graph list i).parent)
   slot i h =
-      let s = slot_represented E.left E.right E.bound work (Ended place letter parent) E.start (ended E.nodes E.last) represents
+      let s = slot_represented E.left E.right E.bound work (Err (Final place letter parent)) E.start (ended E.nodes E.last) represents
       i h in
       let q = at_left graph E.nodes (E.last ∷ []) i h in
       (s.1 ∙ ap (λ (n : Node Vertex). n.letter) (sym q), s.2 ∙ ap (λ (n : Node Vertex). n.parent) (sym q))
@@ -151,7 +152,7 @@ module _ (work : List ℕ) (place letter parent : ℕ) (E : FoundFinal work plac
 
   pub parent_slot : 0 < place → parent < slot_count (length work)
   parent_slot h =
-      let l = ap slot_count (represented_length work (Ended place letter parent) E.start (ended E.nodes E.last) represents) in
+      let l = ap slot_count (represented_length work (Err (Final place letter parent)) E.start (ended E.nodes E.last) represents) in
       omega (arith, below h, E.place_is, fits.room)
 
   pub parents_fall : 0 < place → Falls work parent

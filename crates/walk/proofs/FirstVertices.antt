@@ -1,36 +1,36 @@
 -- The walk by its initial vertex: it is final, or finds no slot, or takes slot 0 and every place is expanded. The idea: before it nothing is listed,
 -- and what the code holds of the two automata is theirs. Assumes nothing.
-use mathlib.Core.Path.{◌≡◌, refl, sym, ◌∙◌, subst}
+use mathlib.Core.Path.{◌≡◌, refl, sym, ap, ◌∙◌, subst}
 use mathlib.Core.Bool.{true, false}
 use mathlib.Core.List.{List, []}
 use Prim.Native.Nat.{ℕ, ◌+◌, ◌*◌, ◌≤◌, ◌<◌}
 use native.Mathlib.Nat.{mul-le-mul}
 use native.Mathlib.Omega.{arith}
-use lib.ListN.{length, replicate}
+use lib.ListN.{length}
 use Rattle.automaton.specs.declared.Automaton.{Automaton}
-use Rattle.automaton.specs.declared.Head.{Head}
-use Rattle.automaton.specs.Automata.{max_states, whole_of, InRange}
+use Rattle.automaton.specs.Automata.{max_states, InRange}
 use Rattle.automaton.specs.Sets.{bit, member}
 use Rattle.automaton.proofs.Ranges.{length-table}
 use Rattle.slots.specs.declared.Vertex.{Vertex}
 use Rattle.slots.specs.Slots.{slot_count, all_zero, no_letter, no_parent}
 use Rattle.slots.specs.Bytes.{with_slot}
-use Rattle.classes.specs.Classes.{listed_with, Classes}
+use Rattle.classes.specs.Classes.{listed_with, empty_index, Classes}
+use Rattle.classes.specs.declared.Index.{Index}
 use Rattle.classes.proofs.Appended.{classes_begin}
 use Rattle.classes.proofs.ListedStates.{listed_absent}
 use Rattle.graph.specs.Discovery.{Walk, going, below, discover, begin, expand_all}
 use Rattle.graph.specs.LagGraph.{initial_vertex, lag_graph}
 use Rattle.graph.specs.Walks.{walk_of}
-use Rattle.step.specs.Masks.{masks_after, Masks}
+use Rattle.step.specs.Masks.{masks_after}
 use Rattle.step.specs.Steps.{tops_of}
 use Rattle.step.proofs.MaskRows.{masks_after_lem}
 use Rattle.step.proofs.SteppedBytes.{accepts_in_range}
-use Rattle.discovery.specs.declared.Walked.{Walked}
-use Rattle.discovery.specs.declared.Walked.TheVariants.{Going, Ended, Full}
+use Rattle.std.specs.Prelude.{Result, Ok, Err}
+use Rattle.discovery.specs.declared.Stop.{Stop}
+use Rattle.discovery.specs.declared.Stop.TheVariants.{Final, Full}
 use Rattle.discovery.specs.Representation.{Represents, Ready}
 use Rattle.discovery.proofs.RepresentedSlots.{represented_none, ready_none, ready_with_slot, discover_final, discover_full, discover_with_slot}
-use Rattle.discovery.proofs.FoldLoops.{EndsWalk, represented_going}
-use Rattle.successors.specs.declared.Rules.{Rules}
+use Rattle.discovery.proofs.FoldLoops.{represented_going}
 use Rattle.successors.specs.Rules.{RulesOf}
 use Rattle.walk.proofs.ExpandLoops.{PlacesDone, stopped_expand_all}
 
@@ -46,27 +46,14 @@ pub few_pairs : (A B : Automaton) → InRange A → InRange B → A.letters * B.
 few_pairs A B R Q = mul-le-mul {n₁ = A.letters} {m₁ = B.states} {n₂ = 16} {m₂ = 32} R.few_letters Q.few_states
 
 -- what the code makes of the two automata
-pub rules_hold : (left right : Head) (lefts rights : List ℕ) (b : ℕ) → InRange (whole_of left lefts) → InRange (whole_of right rights)
-    → (rules : Rules) → rules.letters ≡ left.letters → rules.states ≡ right.states
-    → ((q : ℕ) → q < 32 → bit rules.accepting q ≡ member left.accepting q)
-    → (tops m masks : List ℕ) → tops ≡ tops_of right.accepting (b + 1) → left.letters * right.states * max_states ≤ length m
-    → masks ≡ masks_after rights right.states left.letters m
-    → RulesOf rules tops lefts masks (whole_of left lefts) (whole_of right rights) b
-rules_hold left right lefts rights b R Q rules l s acc tops m masks t fits made =
-    let M = masks_after_lem rights right.states m left.letters masks fits made in
+pub rules_hold : (A B : Automaton) (b : ℕ) → InRange A → InRange B → (accepting : ℕ) → ((q : ℕ) → q < 32 → bit accepting q ≡ member A.accepting q)
+    → (tops m masks : List ℕ) → tops ≡ tops_of B.accepting (b + 1) → A.letters * B.states * max_states ≤ length m → length masks ≡ length m
+    → masks ≡ masks_after B.transitions B.states A.letters m → RulesOf accepting tops masks A B b
+rules_hold A B b R Q accepting acc tops m masks t fits long made =
     record {
-      letters_are = l;
-      accepting_is = λ q h. acc q h ∙ sym (accepts_in_range (whole_of left lefts) R q h);
-      lefts_are = refl;
-      in_range = R;
-      right =
-          record {
-            tops_are = t;
-            states_are = s;
-            masks_are = subst (λ (n : ℕ). Masks masks rights n rules.letters) (sym s)
-                (subst (λ (k : ℕ). Masks masks rights right.states k) (sym l) M);
-            in_range = Q;
-          };
+      accepting_is = λ q h. acc q h ∙ sym (accepts_in_range A R q h);
+      right = record { tops_are = t; states_are = refl; masks_are = masks_after_lem B.transitions B.states m A.letters masks fits made; in_range = Q };
+      room = omega arith;
     }
 
 module _ (A B : Automaton) (b : ℕ) (first : Vertex) (is : first ≡ initial_vertex A B b) (work : List ℕ) where
@@ -76,48 +63,47 @@ module _ (A B : Automaton) (b : ℕ) (first : Vertex) (is : first ≡ initial_ve
   nothing_listed : listed_with work first.counters 0 first.left ≡ false
   nothing_listed = listed_absent work first.counters 0 first.left (λ s l. absurd (omega arith))
 
-  began : (work' : List ℕ) (r : Walked) → Represents work' r work (discover (lag_graph A B b) (below slots) no_parent (going []) (no_letter, first))
+  began : (work' : List ℕ) (r : Result ℕ Stop) → Represents work' r work (discover (lag_graph A B b) (below slots) no_parent (going []) (no_letter, first))
       → Represents work' r work (begin (lag_graph A B b) (below slots))
   began work' r S =
       subst (λ (v : Vertex). Represents work' r work (discover (lag_graph A B b) (below slots) no_parent (going []) (no_letter, v))) is S
 
-  stopped : (work' : List ℕ) (r : Walked) → EndsWalk r → Represents work' r work (begin (lag_graph A B b) (below slots))
-      → Represents work' r work (walk_of A B b slots)
+  stopped : (work' : List ℕ) (s : Stop) → Represents work' (Err s) work (begin (lag_graph A B b) (below slots))
+      → Represents work' (Err s) work (walk_of A B b slots)
   unfolding walk_of
-  stopped work' r t S =
-      subst (λ (w : Walk Vertex). Represents work' r work w)
-      (sym (stopped_expand_all A B b slots slots 0 work' r work (begin (lag_graph A B b) (below slots)) t S)) S
+  stopped work' s S =
+      subst (λ (w : Walk Vertex). Represents work' (Err s) work w)
+      (sym (stopped_expand_all A B b slots slots 0 work' s work (begin (lag_graph A B b) (below slots)) S)) S
 
-  pub first_final : all_zero first.counters ≡ true → Represents work (Ended 0 no_letter no_parent) work (walk_of A B b slots)
+  pub first_final : all_zero first.counters ≡ true → Represents work (Err (Final 0 no_letter no_parent)) work (walk_of A B b slots)
   first_final z =
-      stopped work (Ended 0 no_letter no_parent) tt
-      (began work (Ended 0 no_letter no_parent)
+      stopped work (Final 0 no_letter no_parent)
+      (began work (Err (Final 0 no_letter no_parent))
       (discover_final A B b work 0 work [] (represented_none work) no_parent no_letter first nothing_listed z))
 
-  pub first_full : all_zero first.counters ≡ false → slots ≤ 0 → Represents work (Full 0) work (walk_of A B b slots)
+  pub first_full : all_zero first.counters ≡ false → slots ≤ 0 → Represents work (Err (Full 0)) work (walk_of A B b slots)
   first_full z h =
-      stopped work (Full 0) tt
-      (began work (Full 0) (discover_full A B b work 0 work [] (represented_none work) no_parent no_letter first nothing_listed z h))
+      stopped work (Full 0)
+      (began work (Err (Full 0)) (discover_full A B b work 0 work [] (represented_none work) no_parent no_letter first nothing_listed z h))
 
   -- work₁ is the buffer with the first vertex in slot 0
-  pub first_slot : all_zero first.counters ≡ false → 0 < slots → length first.counters ≡ max_states
-      → (rules : Rules) (tops lefts masks : List ℕ) → RulesOf rules tops lefts masks A B b → (work₁ work' : List ℕ) (r : Walked)
-      → work₁ ≡ with_slot work 0 first no_letter no_parent → PlacesDone rules tops lefts masks work₁ 1 work' r
-      → Represents work' r work (walk_of A B b slots)
-  unfolding walk_of
-  first_slot z h wide rules tops lefts masks R work₁ work' r e done =
-      let w = with_slot work 0 first no_letter no_parent in
-      let S =
-      began w (Going 1) (discover_with_slot A B b work 0 work [] (represented_none work) no_parent no_letter first nothing_listed z h wide) in
-      let g = represented_going w (Going 1) 1 work (begin (lag_graph A B b) (below slots)) refl S in
-      subst (λ (x : Walk Vertex). Represents work' r work (expand_all (lag_graph A B b) (below slots) slots 0 x)) (sym g.1)
-      (done A B b R work g.0 (rw e g.2))
+  module _ (z : all_zero first.counters ≡ false) (h : 0 < slots) (work₁ : List ℕ) (e : work₁ ≡ with_slot work 0 first no_letter no_parent) where
+    first_wide : length first.counters ≡ max_states
+    first_wide = ap (λ (v : Vertex). length v.counters) is ∙ initial_wide A B b
 
--- the index after the first vertex has taken slot 0
-pub ready_first : (first : Vertex) (work work₁ heads nexts listed : List ℕ) → first.left < max_states → length first.counters ≡ max_states
-    → all_zero first.counters ≡ false → 0 < slot_count (length work) → work₁ ≡ with_slot work 0 first no_letter no_parent
-    → Classes work₁ heads nexts listed 1 → Ready work₁ heads nexts listed 1
-ready_first first work work₁ heads nexts listed small wide z h e K =
-    rw e
-    (ready_with_slot work 0 first no_letter no_parent h wide (replicate 4096 0) (replicate 4096 0) (replicate 4096 0) heads nexts listed
-    (ready_none work _ _ _ (classes_begin work)) small z (rw e at K))
+    pub first_slot : (work' : List ℕ) (r : Result ℕ Stop) → PlacesDone A B b work₁ 1 work' r → Represents work' r work (walk_of A B b slots)
+    unfolding walk_of
+    first_slot work' r done =
+        let w = with_slot work 0 first no_letter no_parent in
+        let S =
+        began w (Ok 1) (discover_with_slot A B b work 0 work [] (represented_none work) no_parent no_letter first nothing_listed z h first_wide) in
+        let g = represented_going w 1 work (begin (lag_graph A B b) (below slots)) S in
+        subst (λ (x : Walk Vertex). Represents work' r work (expand_all (lag_graph A B b) (below slots) slots 0 x)) (sym g.1)
+        (done work g.0 (subst (λ (x : List ℕ). Represents x (Ok 1) work (going g.0)) (sym e) g.2))
+
+    -- the index after it
+    pub ready_first : (index : Index) → InRange A → Classes work₁ index 1 → Ready work₁ index 1
+    ready_first index R K =
+        rw e
+        (ready_with_slot work 0 first no_letter no_parent h first_wide empty_index index (ready_none work _ (classes_begin work))
+        (subst (λ (v : Vertex). v.left < max_states) (sym is) (initial_small A B b R)) z (rw e at K))

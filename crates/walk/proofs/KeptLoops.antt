@@ -12,44 +12,36 @@ use Rattle.slots.specs.declared.Vertex.{Vertex}
 use Rattle.classes.specs.Classes.{counters_at, class_of, class_at}
 use Rattle.classes.proofs.Leaders.{lists_equal, class_none, class_some, class_le}
 use Rattle.classes.proofs.ListedStates.{class_at_lem}
-use Rattle.discovery.specs.declared.Walked.{Walked}
-use Rattle.discovery.specs.declared.Walked.TheVariants.{Going, Ended, Full}
+use Rattle.std.specs.Prelude.{Ok}
+use Rattle.classes.specs.declared.Index.{Index}
 use Rattle.discovery.specs.Representation.{Ready, Grows}
-use Rattle.discovery.proofs.FoldLoops.{EndsWalk}
 use Rattle.kept.specs.Kept.{lines, line_length, kept_after, KeptStep, KeptLines}
 use Rattle.kept.proofs.KeptSteps.{kept_line, line_owner, kept_step, kept_grows}
-use Rattle.walk.specs.Ready.{ReadyNext}
 
--- a slot that has the counters owns the line
-pub record Owns (work : List ℕ) (count class line : ℕ) (counters owners : List ℕ) : Type 0 where
+-- a slot that leads its class and has the counters owns the line
+pub record Owns (work : List ℕ) (count line : ℕ) (counters owners : List ℕ) : Type 0 where
   pub slot : ℕ
   pub below : slot < count
-  pub owner : get_or owners (class % lines) 0 ≡ suc slot
+  pub owner : get_or owners (suc slot % lines) 0 ≡ suc slot
   pub has : counters_at work slot ≡ counters
-  pub from : line ≡ class % lines * line_length
-
-pub stops_ready : (tops m : List ℕ) (states : ℕ) (r : Walked) (work heads nexts listed owners kept : List ℕ) → EndsWalk r
-    → ReadyNext tops m states r work heads nexts listed owners kept
-stops_ready tops m states (Going n) work heads nexts listed owners kept t = absurd t
-stops_ready tops m states (Ended i a p) work heads nexts listed owners kept t = tt
-stops_ready tops m states (Full n) work heads nexts listed owners kept t = tt
+  pub from : line ≡ suc slot % lines * line_length
 
 -- the class of a place that is listed
-module _ (work heads nexts listed : List ℕ) (n : ℕ) (R : Ready work heads nexts listed n) (p : ℕ) (inside : p < n) (class : ℕ)
-    (is : class ≡ class_at nexts listed p) where
+module _ (work : List ℕ) (index : Index) (n : ℕ) (R : Ready work index n) (p : ℕ) (inside : p < n) (class : ℕ)
+    (is : class ≡ class_at index p) where
   class_is : class ≡ class_of work (counters_at work p) n
-  class_is = is ∙ class_at_lem work nexts listed n R.index.joined R.lefts p inside
+  class_is = is ∙ class_at_lem work index n R.index_is.joined R.lefts p inside
 
   pub class_small : class ≤ 4096
   class_small = let r = R.room in omega (arith, class_is, class_le work (counters_at work p) n)
 
   pub line_begins : (tops m : List ℕ) (states line : ℕ) (owners kept owners' kept' : List ℕ) → KeptLines tops m states work n owners kept
       → line ≡ class % lines * line_length → owners' ≡ set owners (class % lines) class → kept' ≡ kept_after owners kept class
-      → KeptLines tops m states work n owners' kept' × Owns work n class line (counters_at work p) owners'
+      → KeptLines tops m states work n owners' kept' × Owns work n line (counters_at work p) owners'
   line_begins tops m states line owners kept owners' kept' K e f g = go class class_is e f g
     where
       go : (x : ℕ) → x ≡ class_of work (counters_at work p) n → line ≡ x % lines * line_length → owners' ≡ set owners (x % lines) x
-          → kept' ≡ kept_after owners kept x → KeptLines tops m states work n owners' kept' × Owns work n x line (counters_at work p) owners'
+          → kept' ≡ kept_after owners kept x → KeptLines tops m states work n owners' kept' × Owns work n line (counters_at work p) owners'
       go zero q e f g =
           clash (lists_equal (counters_at work p) (counters_at work p) refl) (class_none work (counters_at work p) n (sym q) p inside)
       go (suc k) q e f g =
@@ -66,26 +58,26 @@ module _ (work heads nexts listed : List ℕ) (n : ℕ) (R : Ready work heads ne
             },
           )
 
-module _ (tops m : List ℕ) (states : ℕ) (work : List ℕ) (n class line : ℕ) (counters owners kept : List ℕ)
-    (K : KeptLines tops m states work n owners kept) (O : Owns work n class line counters owners) (letter : ℕ) (few : letter < max_letters) where
+module _ (tops m : List ℕ) (states : ℕ) (work : List ℕ) (n line : ℕ) (counters owners kept : List ℕ)
+    (K : KeptLines tops m states work n owners kept) (O : Owns work n line counters owners) (letter : ℕ) (few : letter < max_letters) where
   pub line_step : KeptStep tops m states work n kept (line + letter * 2) letter counters
   line_step =
       subst (λ (i : ℕ). KeptStep tops m states work n kept (i + letter * 2) letter counters) (sym O.from)
-      (subst (λ (f : List ℕ). KeptStep tops m states work n kept (class % lines * line_length + letter * 2) letter f) O.has
-      ((K.owned (class % lines) O.slot (omega arith) O.owner).1 letter few))
+      (subst (λ (f : List ℕ). KeptStep tops m states work n kept (suc O.slot % lines * line_length + letter * 2) letter f) O.has
+      ((K.owned (suc O.slot % lines) O.slot (omega arith) O.owner).1 letter few))
 
   pub place_fits : line + letter * 2 + 2 ≤ length kept
   place_fits = omega (arith, O.from, K.kept_long)
 
   pub line_kept : (kept' : List ℕ) → length kept' ≡ length kept → KeptStep tops m states work n kept' (line + letter * 2) letter counters
       → ((i : ℕ) → i ≢ line + letter * 2 → i ≢ line + letter * 2 + 1 → get_or kept' i 0 ≡ get_or kept i 0)
-      → (work' : List ℕ) (n' : ℕ) → Grows work n work' (Going n')
-      → KeptLines tops m states work' n' owners kept' × Owns work' n' class line counters owners
+      → (work' : List ℕ) (n' : ℕ) → Grows work n work' (Ok n')
+      → KeptLines tops m states work' n' owners kept' × Owns work' n' line counters owners
   line_kept kept' e S others work' n' G =
       let more = G.no_fewer in
       let d = O.below in (
         kept_grows tops m states work work' n n' G.slots G.no_fewer kept' owners
-            (kept_step tops m states work n owners kept K kept' (class % lines) letter O.slot e (omega arith) few O.owner
+            (kept_step tops m states work n owners kept K kept' (suc O.slot % lines) letter O.slot e (omega arith) few O.owner
             (subst (λ (i : ℕ). KeptStep tops m states work n kept' (i + letter * 2) letter (counters_at work O.slot)) O.from
             (subst (λ (f : List ℕ). KeptStep tops m states work n kept' (line + letter * 2) letter f) (sym O.has) S))
             (subst (λ (x : ℕ). (i : ℕ) → i ≢ x + letter * 2 → i ≢ x + letter * 2 + 1 → get_or kept' i 0 ≡ get_or kept i 0) O.from others)),

@@ -1,3 +1,2 @@
 -- The contracts of the walk's code.
 pub mod FinalWord
-pub mod Ready

@@ -1,228 +1,136 @@
 // The walk of the lag-checking graph: the discovery list, its vertices written into the slots of the work buffer.
 #![tactic(auto)]
 
-ghost use Rattle.std.specs.Prelude.{◌≡◌, false, ℕ, ◌<◌, ◌≤◌, length};
-ghost use Rattle.automaton.specs.declared.Automaton.{Automaton};
-ghost use Rattle.automaton.specs.Automata.{max_states, max_letters, whole_of, InRange};
+ghost use Rattle.std.specs.Prelude.{◌≡◌, false, ℕ, ◌<◌, ◌≤◌, length, IfOk};
 ghost use Rattle.slots.specs.Slots.{slot_count, all_zero};
 ghost use Rattle.slots.specs.Bytes.{Falls};
 ghost use Rattle.graph.specs.Discovery.{below, expand as expanding, expand_all as expanding_all};
-ghost use Rattle.graph.specs.LagGraph.{max_bound, initial_vertex, lag_graph};
+ghost use Rattle.graph.specs.LagGraph.{max_bound, initial_vertex};
 ghost use Rattle.graph.specs.Walks.{walk_of, work_after, word_after};
-ghost use Rattle.step.specs.Masks.{row_place};
 ghost use Rattle.discovery.specs.Representation.{walked_of, Represents, Becomes, Ready};
-ghost use Rattle.kept.specs.Kept.{KeptLines};
-ghost use Rattle.successors.specs.Rules.{RulesOf};
+ghost use Rattle.successors.specs.Steps.{graph_of, LinesKept};
 ghost use Rattle.walk.specs.FinalWord.{final_word_in};
-ghost use Rattle.walk.specs.Ready.{ReadyNext};
 
-use automaton::Head;
-use discovery::Walked;
+use automaton::Valid;
+use classes::Index;
+use discovery::{Edge, Stop};
+use kept::Kept;
 use slots::Vertex;
 use successors::Rules;
 
-// Expands place p: all successors of its vertex, letters upwards, left targets upwards.
+// Expands place p: all successors of its vertex, letters upwards, left targets upwards. The answer is the number of vertices listed.
 fn expand(
-    rules: Rules,
-    tops: &[u8; 32],
-    lefts: &[u8; 2048],
-    masks: &[u8],
+    rules: &Rules,
     work: &mut [u8],
-    heads: &mut [u16],
-    nexts: &mut [u16],
-    listed: &mut [u32],
-    owners: &mut [u16],
-    kept: &mut [u16],
+    index: &mut Index,
+    kept: &mut Kept,
     n: usize,
     p: usize,
-) -> Walked
-    requires { Ready work.old heads.old nexts.old listed.old n × (p < n) × (rules.letters ≤ max_letters) × (rules.states ≤ max_states)
-        × (row_place rules.states rules.letters 0 ≤ length masks.now)
-        × KeptLines tops.now masks.now rules.states work.old n owners.old kept.old }
-    ensures represents { (A B : Automaton) (b : ℕ) → RulesOf rules tops.now lefts.now masks.now A B b
-        → Becomes work.old n work.new result (λ S. expanding (lag_graph A B b) (below S) p) }
-    ensures ready { ReadyNext tops.now masks.now rules.states result work.new heads.new nexts.new
-        listed.new owners.new kept.new }
+) -> Result<usize, Stop>
+    requires { Ready work.old index.old n × (p < n) × LinesKept rules.now work.old n kept.old }
+    ensures represents { Becomes work.old n work.new result (λ S. expanding (graph_of rules.now) (below S) p) }
+    ensures ready { IfOk result (λ m. Ready work.new index.new m × LinesKept rules.now work.new m kept.new) }
 {
-    let letters = rules.letters;
-    let class = classes::class_at(nexts, listed, p);
-    let line = kept::line_of(owners, kept, class);
+    let line = kept.line_of(index.class_at(p));
     let v = slots::load(work, p);
-    let counters = v.counters;
-    let present = step::present::present_of(counters, rules.states);
-    let places = present.places;
-    let left = automaton::wide(v.left);
+    let present = step::present::present_of(v.counters, rules.right.automaton.states);
     let mut count = n;
-    let mut letter: usize = 0;
-    while letter < letters {
-        let seen = successors::expand_letter(
-            rules,
-            tops,
-            lefts,
-            masks,
-            work,
-            heads,
-            nexts,
-            listed,
-            kept,
-            count,
-            p,
-            left,
-            &counters,
-            present.count,
-            &places,
-            letter,
-            line + letter * 2,
-        );
-        let Walked::Going(m) = seen else {
-            return seen;
+    for letter in 0..rules.left.automaton.letters {
+        let edge = Edge {
+            letter: letter as u8,
+            parent: p,
         };
-        count = m;
-        letter += 1;
+        let at = line + letter * 2;
+        count = successors::expand_letter(
+            rules,
+            work,
+            index,
+            &mut kept.lines,
+            count,
+            edge,
+            &v,
+            &present,
+            at,
+        )?;
     }
-    Walked::Going(count)
+    Ok(count)
 }
 
-// Expands all places, from place 0 on.
-fn expand_all(
-    rules: Rules,
-    tops: &[u8; 32],
-    lefts: &[u8; 2048],
-    masks: &[u8],
-    work: &mut [u8],
-    heads: &mut [u16],
-    nexts: &mut [u16],
-    listed: &mut [u32],
-    n: usize,
-) -> Walked
-    requires { Ready work.old heads.old nexts.old listed.old n × (rules.letters ≤ max_letters) × (rules.states ≤ max_states)
-        × (row_place rules.states rules.letters 0 ≤ length masks.now) }
-    ensures { (A B : Automaton) (b : ℕ) → RulesOf rules tops.now lefts.now masks.now A B b
-        → Becomes work.old n work.new result (λ S. expanding_all (lag_graph A B b) (below S) S 0) }
+// Expands all places, from place 0 on, those that are listed meanwhile too. The answer is the number of vertices listed.
+fn expand_all(rules: &Rules, work: &mut [u8], index: &mut Index, n: usize) -> Result<usize, Stop>
+    requires { Ready work.old index.old n }
+    ensures { Becomes work.old n work.new result (λ S. expanding_all (graph_of rules.now) (below S) S 0) }
 {
-    let mut owners = [0u16; kept::LINES];
-    let mut kept = [0u16; kept::LINES * kept::LINE_LENGTH];
+    let mut kept = Kept::new();
     let mut count = n;
-    let mut p: usize = 0;
+    let mut p = 0;
     while p < count {
-        let seen = expand(
-            rules,
-            tops,
-            lefts,
-            masks,
-            work,
-            heads,
-            nexts,
-            listed,
-            &mut owners,
-            &mut kept,
-            count,
-            p,
-        );
-        let Walked::Going(m) = seen else {
-            return seen;
-        };
-        count = m;
+        count = expand(rules, work, index, &mut kept, count, p)?;
         p += 1;
     }
-    Walked::Going(count)
+    Ok(count)
 }
 
-// The walk from the first vertex on, which is not final and for which there is a slot.
-fn walk_from(
-    rules: Rules,
-    tops: &[u8; 32],
-    lefts: &[u8; 2048],
-    masks: &[u8],
-    work: &mut [u8],
-    first: Vertex,
-) -> Walked
-    requires { (first.left < max_states) × (length first.counters ≡ max_states) × (all_zero first.counters ≡ false)
-        × (0 < slot_count (length work.old)) × (rules.letters ≤ max_letters) × (rules.states ≤ max_states)
-        × (row_place rules.states rules.letters 0 ≤ length masks.now) }
-    ensures { (A B : Automaton) (b : ℕ) → RulesOf rules tops.now lefts.now masks.now A B b
-        → first ≡ initial_vertex A B b
-        → Represents work.new result work.old (walk_of A B b (slot_count (length work.old))) }
+// The walk from the initial vertex on, which is not final and for which there is a slot.
+fn walk_from(rules: &Rules, work: &mut [u8], first: Vertex) -> Result<usize, Stop>
+    requires { (first ≡ initial_vertex rules.now.left.automaton.now rules.now.right.automaton.now rules.now.bound)
+        × (all_zero first.counters ≡ false) × (0 < slot_count (length work.old)) }
+    ensures { Represents work.new result work.old
+        (walk_of rules.now.left.automaton.now rules.now.right.automaton.now rules.now.bound (slot_count (length work.old))) }
 {
-    let mut heads = [0u16; slots::MAX_SLOTS];
-    let mut nexts = [0u16; slots::MAX_SLOTS];
-    let mut listed = [0u32; slots::MAX_SLOTS];
-    let counters = first.counters;
-    let key = classes::key_of(&counters);
-    classes::append(
-        work,
-        &mut heads,
-        &mut nexts,
-        &mut listed,
-        0,
-        first,
-        slots::NO_LETTER,
-        slots::NO_PARENT,
-        key,
-        0,
-    );
-    expand_all(
-        rules,
-        tops,
-        lefts,
-        masks,
-        work,
-        &mut heads,
-        &mut nexts,
-        &mut listed,
-        1,
-    )
+    let mut index = Index::empty();
+    let key = classes::key_of(&first.counters);
+    index.append(work, 0, first, slots::NO_LETTER, slots::NO_PARENT, key, 0);
+    expand_all(rules, work, &mut index, 1)
 }
 
-// The walk of the lag-checking graph of two automata at a bound; their transitions are lent. The slots that it takes are written from the start
-// of work. The initial vertex comes before any array is cleared, and no more masks are cleared than the two automata need.
-pub fn walk(
-    left: Head,
-    lefts: &[u8; 2048],
-    right: Head,
-    rights: &[u8; 2048],
-    bound: usize,
-    work: &mut [u8],
-) -> Walked
-    requires { InRange (whole_of left lefts.now) × InRange (whole_of right rights.now) × (bound ≤ max_bound) }
+// The walk of the lag-checking graph of two automata at a bound: the number of vertices listed, or why the list ends. The slots that it takes are
+// written from the start of work. The initial vertex comes before any array is cleared, and no more masks are cleared than the two automata need.
+pub fn walk(left: Valid, right: Valid, bound: usize, work: &mut [u8]) -> Result<usize, Stop>
+    requires { bound ≤ max_bound }
     ensures answer { result ≡ walked_of (slot_count (length work.old))
-        (walk_of (whole_of left lefts.now) (whole_of right rights.now) bound (slot_count (length work.old))) }
+        (walk_of left.entry.automaton.now right.entry.automaton.now bound (slot_count (length work.old))) }
     ensures bytes { work.new ≡ work_after work.old
-        (walk_of (whole_of left lefts.now) (whole_of right rights.now) bound (slot_count (length work.old))) }
+        (walk_of left.entry.automaton.now right.entry.automaton.now bound (slot_count (length work.old))) }
 {
-    let left_accepting = left.accepting;
-    let right_accepting = right.accepting;
-    let first = step::initial_vertex(
-        left.initial,
-        &left_accepting,
-        right.initial,
-        &right_accepting,
-        bound,
-    );
-    let counters = first.counters;
-    if classes::all_zero(&counters) {
-        return Walked::Ended(0, slots::NO_LETTER, slots::NO_PARENT);
+    let first = step::initial_vertex(left.automaton, right.automaton, bound);
+    if classes::all_zero(&first.counters) {
+        return Err(Stop::Final {
+            place: 0,
+            letter: slots::NO_LETTER,
+            parent: slots::NO_PARENT,
+        });
     }
     if slots::slot_count(work.len()) == 0 {
-        return Walked::Full(0);
+        return Err(Stop::Full(0));
     }
-    let letters = left.letters;
-    let states = right.states;
-    let accepting = relations::of_bytes(&left_accepting);
-    let rules = Rules {
-        letters,
-        states,
-        accepting,
-    };
-    let tops = step::tops_of(&right_accepting, (bound + 1) as u8);
-    if letters * states <= 64 {
+    let letters = left.automaton.letters;
+    let accepting = relations::of_bytes(&left.automaton.accepting);
+    let tops = step::tops_of(right.automaton, (bound + 1) as u8);
+    if letters * right.automaton.states <= 64 {
         let mut masks = [0u8; 2048];
-        step::masks::fill(&mut masks, rights, states, letters);
-        return walk_from(rules, &tops, lefts, &masks, work, first);
+        step::masks::fill(&mut masks, right.automaton, letters);
+        let rules = Rules {
+            left,
+            right,
+            bound,
+            accepting,
+            tops: &tops,
+            masks: &masks,
+        };
+        return walk_from(&rules, work, first);
     }
     let mut masks = [0u8; 16384];
-    step::masks::fill(&mut masks, rights, states, letters);
-    walk_from(rules, &tops, lefts, &masks, work, first)
+    step::masks::fill(&mut masks, right.automaton, letters);
+    let rules = Rules {
+        left,
+        right,
+        bound,
+        accepting,
+        tops: &tops,
+        masks: &masks,
+    };
+    walk_from(&rules, work, first)
 }
 
 // Writes the word of a final vertex, which stands at a place and was found by a letter from the vertex at place parent, to the

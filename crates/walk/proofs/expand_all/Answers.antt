@@ -1,36 +1,35 @@
 -- `walk::expand_all` meets its contract. Before each place those still to come, expanded from the list that the work buffer represents, make the walk,
 -- and the steps that are kept are those of the slots so far; places are listed ones, so there are no more of them than slots. Assumes nothing.
-use mathlib.Core.Path.{◌∙◌}
-use lib.ListN.{length}
-use Rattle.discovery.proofs.FoldLoops.{other_stops}
+use Rattle.std.proofs.lemmas.Result.{err_from_is_err_and}
 use Rattle.walk.proofs.ExpandLoops.{expand_all_next, expand_all_stop, expand_all_end}
 use Rattle.walk.proofs.expand_all.Goals as goal
 
-pub returns-in_default : goal.returns-in_default
-returns-in_default c = let a = c.args in
+pub returns-in_err-count : goal.returns-in_err-count
+returns-in_err-count c =
+    let a = c.args in
+    let u = a.rules.now in
     let l = c.loop-p in
-    let v = c.expand-seen in
-    expand_all_stop a.rules a.tops.now a.lefts.now a.masks.now a.work.now a.n l.work l.count l.p l.invariant.6
-    c.loop-p-test.true v.new.work v.result v.ensures.represents (other_stops v.result c.in_default.not-Going)
+    let v = c.expand in
+    let p = err_from_is_err_and c.from_residual.result c.from_residual.ensures.1 in
+    rw (p.1, p.2)
+    (expand_all_stop u.left.automaton.now u.right.automaton.now u.bound a.work.now a.n l.work l.count l.p l.invariant.to_go c.loop-p-test.true
+    v.new.work v.result v.ensures.represents _ c.in_err-count.was)
 
 pub loop-p-preserved : goal.loop-p-preserved
-loop-p-preserved c = let a = c.args in
+loop-p-preserved c =
+    let a = c.args in
+    let u = a.rules.now in
     let l = c.loop-p in
-    let v = c.expand-seen in
-    let g = c.in-Going.is in
-    let R = rw g at v.ensures.ready in (
-      ◌∙◌ {b = length l.work} v.auto.work l.invariant.0,
-      ◌∙◌ {b = length l.heads} v.auto.heads l.invariant.1,
-      ◌∙◌ {b = length l.nexts} v.auto.nexts l.invariant.2,
-      ◌∙◌ {b = length l.listed} v.auto.listed l.invariant.3,
-      R.0,
-      R.1,
-      expand_all_next a.rules a.tops.now a.lefts.now a.masks.now a.work.now a.n l.work l.count l.p l.invariant.6
-          c.loop-p-test.true v.new.work v.result v.ensures.represents _ g,
-    )
+    let v = c.expand in record {
+      ready = c.in_ok-count.ensures.ready.0;
+      lines = c.in_ok-count.ensures.ready.1;
+      to_go = expand_all_next u.left.automaton.now u.right.automaton.now u.bound a.work.now a.n l.work l.count l.p l.invariant.to_go c.loop-p-test.true
+          v.new.work v.result v.ensures.represents _ c.in_ok-count.was;
+    }
 
 pub returns : goal.returns
-returns c = let a = c.args in
+returns c =
+    let a = c.args in
+    let u = a.rules.now in
     let l = c.loop-p in
-    expand_all_end a.rules a.tops.now a.lefts.now a.masks.now a.work.now a.n l.work l.count l.p l.invariant.6
-    c.loop-p-test.false
+    expand_all_end u.left.automaton.now u.right.automaton.now u.bound a.work.now a.n l.work l.count l.p l.invariant.to_go c.loop-p-test.false

@@ -1,37 +1,38 @@
 -- `walk::walk_from` meets its contract: the initial vertex takes slot 0 and leads its class, and then every place is expanded. Assumes nothing.
-use mathlib.Core.Path.{sym}
+use mathlib.Core.Path.{sym, subst}
+use Prim.Native.Nat.{◌<◌}
 use native.Mathlib.Omega.{arith}
+use Rattle.automaton.specs.Automata.{max_states}
+use Rattle.slots.specs.declared.Vertex.{Vertex}
 use Rattle.classes.proofs.Leaders.{class_absent}
 use Rattle.classes.proofs.Appended.{classes_begin}
-use Rattle.walk.proofs.FirstVertices.{ready_first, first_slot}
+use Rattle.walk.proofs.FirstVertices.{initial_small, ready_first, first_slot}
 use Rattle.walk.proofs.walk_from.Goals as goal
 
 pub append-requires : goal.append-requires
-append-requires c = let s = c in
+append-requires c =
+    let a = c.args in
+    let u = a.rules.now in
     let k = c.key_of-key.ensures in (
-      s.requires.3,
+      c.requires.2,
       omega arith,
-      s.requires.0,
+      subst (λ (v : Vertex). v.left < max_states) (sym c.requires.0) (initial_small u.left.automaton.now u.right.automaton.now u.bound u.left.in_range),
       k.0,
       k.1,
-      classes_begin s.args.work.now,
-      sym (class_absent s.args.work.now s.args.first.counters 0 (λ r l. absurd (omega arith))),
+      rw c.empty-index.ensures (classes_begin a.work.now),
+      sym (class_absent a.work.now a.first.counters 0 (λ r l. absurd (omega arith))),
     )
 
 pub expand_all-requires : goal.expand_all-requires
-expand_all-requires c = let s = c in
-    let p = c.append in (
-      ready_first s.args.first s.args.work.now p.new.work p.new.heads p.new.nexts p.new.listed s.requires.0 s.requires.1
-          s.requires.2 s.requires.3 p.ensures.bytes p.ensures.index,
-      s.requires.4,
-      s.requires.5,
-      s.requires.6,
-    )
+expand_all-requires c =
+    let a = c.args in
+    let u = a.rules.now in
+    ready_first u.left.automaton.now u.right.automaton.now u.bound a.first c.requires.0 a.work.now c.requires.1 c.requires.2 c.append.new.work
+    c.append.ensures.bytes c.append.new.self u.left.in_range c.append.ensures.classes
 
 pub returns : goal.returns
-returns c A B b R is = let s = c in
-    let a = s.args in
-    let p = c.append in
-    let v = c.expand_all in
-    first_slot A B b a.first is a.work.now s.requires.2 s.requires.3 s.requires.1 a.rules a.tops.now a.lefts.now a.masks.now R
-    p.new.work v.new.work v.result p.ensures.bytes v.ensures
+returns c =
+    let a = c.args in
+    let u = a.rules.now in
+    first_slot u.left.automaton.now u.right.automaton.now u.bound a.first c.requires.0 a.work.now c.requires.1 c.requires.2 c.append.new.work
+    c.append.ensures.bytes c.expand_all.new.work c.expand_all.result c.expand_all.ensures
