@@ -1,7 +1,7 @@
--- Chains over a range of numbers: whether some number passes a test, and the sum of what is mapped; and bounds on such sums.
+-- The sum of what is mapped over a range of numbers, and bounds on such sums.
 -- Assumes nothing.
-use mathlib.Core.Path.{◌≡◌, refl, sym, ap, ap₂, ◌∙◌}
-use mathlib.Core.Bool.{Bool, true, false, ◌||◌}
+use mathlib.Core.Path.{◌≡◌, sym, ap, ◌∙◌}
+use mathlib.Core.Bool.{Bool, true, false}
 use mathlib.Core.List.{List, map}
 use Prim.Native.Nat.{ℕ, zero, suc, ◌+◌, ◌-◌, ◌*◌, ◌/◌, ◌≤◌, ◌<◌}
 use native.Mathlib.Nat.{add-zero, zero-add, mul-suc}
@@ -10,41 +10,18 @@ use native.Mathlib.Omega.{arith}
 use denote.Param.Members.{Mut}
 use Rattle.std.specs.declared.ops.Range.{Range}
 use Rattle.std.specs.declared.iter.Map.{Map}
-use Rattle.std.specs.Prelude.{Option}
 use Rattle.std.specs.Bool.{⊤}
 use Rattle.std.specs.Fn.{Called}
-use Rattle.std.specs.Iterator.{Drains, YieldsThen}
+use Rattle.std.specs.Iterator.{Drains}
 use Rattle.std.specs.Iterator.Adapters.{map_source, map_callee}
 use Rattle.std.specs.Iterator.Runs.{EachRunFrom}
-use Rattle.std.specs.List.{FoldsTo, fold, list_any, range_with_len}
-use Rattle.std.specs.Option.{MatchOption}
+use Rattle.std.specs.List.{fold, range_with_len}
 use Rattle.std.proofs.iter.Yields.{nat_range_steps}
 use Rattle.std.proofs.lemmas.Iterator.{maps, YieldsList-from_range, YieldsList-from_map}
 use Rattle.std.proofs.lemmas.Iterator.Adapters.{at_most_from_yields_List, fits_from_length, total_from_yields_List}
-use Rattle.std.proofs.lemmas.Iterator.Search.{any_from_yields_List}
 use Rattle.std.proofs.lemmas.List.FromFn.{length-range_with_len}
 use Rattle.automaton.specs.Automata.{one}
-use Rattle.automaton.specs.Ranges.{some, total}
-
-some_listed : (f : ℕ → Bool) (n i : ℕ) → list_any f (range_with_len i n) ≡ some f n i
-unfolding some
-some_listed f zero i = refl
-some_listed f (suc n) i =
-    ap (λ (k : ℕ). f i || list_any f (range_with_len k n)) (add-one i) ∙ ap (λ (b : Bool). f i || b) (some_listed f n (suc i))
-
--- `any` over the numbers from i on
-pub some_from_any : {F : Type 0} {g : Mut F (ℕ × Unit {0}) Bool} {s : Range ℕ} (f : ℕ → Bool) (i j n : ℕ) (u : Range ℕ) (k : F) (r : Bool)
-    → (xs : List ℕ) × (o : Option ℕ) × (h : F) × YieldsThen nat_range_steps s xs o u × FoldsTo (λ p x q. Called g p (x, tt) false q) k xs h
-    × MatchOption o (r ≡ false) (λ x. (r ≡ true) × ((q : F) × Called g h (x, tt) true q))
-    → s ≡ record { start = i; end = j } → j - i ≡ n
-    → ((x : ℕ) (b : Bool) (q : F) → Called g k (x, tt) b q → (q ≡ k) × (b ≡ f x)) → r ≡ some f n i
-some_from_any f i j n u k r ran e d calls = any_from_yields_List f u k r ran (YieldsList-from_range i j n e d) calls ∙ some_listed f n i
-
--- tests that agree from i on
-pub some_same_from : (f g : ℕ → Bool) (n i : ℕ) → ((k : ℕ) → i ≤ k → f k ≡ g k) → some f n i ≡ some g n i
-unfolding some
-some_same_from f g zero i e = refl
-some_same_from f g (suc n) i e = ap₂ ◌||◌ (e i (omega arith)) (some_same_from f g n (suc i) (λ k l. e k (omega arith)))
+use Rattle.automaton.specs.Ranges.{total}
 
 total_listed : (f : ℕ → ℕ) (c n i : ℕ) → fold (λ a x. a + x) c (map f (range_with_len i n)) ≡ c + total f n i
 unfolding total

@@ -6,6 +6,11 @@ ghost use Rattle.std.specs.Prelude.{◌≡◌, ℕ, ◌+◌, ◌≤◌, length};
 ghost use Rattle.automaton.specs.Sets.{bit};
 ghost use Rattle.unions.specs.Unions.{named, groups_for, doubled, filled};
 
+use automaton::MAX_STATES;
+
+// The entries of a table: 16 for every four of 32 values.
+pub const ENTRIES: usize = 128;
+
 // The first `size` entries are followed by the same entries with the value besides; the others stay.
 fn double(entries: &mut [u64], size: usize, value: u64)
     requires { (size ≤ 8) × (size + size ≤ length entries.old) }
@@ -43,7 +48,7 @@ fn groups_for(n: usize) -> usize
 }
 
 // The entries become the unions of the choices of the values, in the groups of four that n values are held in; the others stay.
-pub fn fill(table: &mut [u64; 128], values: &[u64; 32], n: usize)
+pub fn fill(table: &mut [u64; ENTRIES], values: &[u64; MAX_STATES], n: usize)
     ensures { table.new ≡ filled table.old values.now (groups_for n) }
 {
     for g in 0..groups_for(n) {
@@ -77,7 +82,7 @@ fn union_eight(table: &[u64], choice: u64) -> u64
 
 // The union of the entries that the bits of the word name, in the groups that n values are held in; in a table of unions, the union of the
 // values that the word chooses. Without a loop and so a function for each number of groups, since it stands in the innermost loops.
-pub fn union(table: &[u64; 128], n: usize, choice: u64) -> u64
+pub fn union(table: &[u64; ENTRIES], n: usize, choice: u64) -> u64
     ensures { (q : ℕ) → bit result q ≡ named table.now (groups_for n) choice q }
 {
     if n <= 8 {

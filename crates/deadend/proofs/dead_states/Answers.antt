@@ -3,7 +3,7 @@ use mathlib.Core.Path.{◌∙◌}
 use mathlib.Core.Bool.{false}
 use Rattle.std.proofs.Common.{rules, tests}
 use Rattle.automaton.specs.Sets.{bit}
-use Rattle.deadend.proofs.Tested.{array_made}
+use Rattle.relations.proofs.Calls.{array_made}
 use Rattle.deadend.proofs.WordDeadEnds.{dead_flags}
 use Rattle.deadend.proofs.dead_states.Goals as goal
 

@@ -4,7 +4,7 @@ use Prim.Native.Nat.{ℕ}
 use Rattle.std.proofs.Common.{rules, tests}
 use Rattle.automaton.specs.Automata.{stray_transition}
 use Rattle.automaton.specs.Ranges.{some}
-use Rattle.range_test.proofs.OverRanges.{some_from_any}
+use Rattle.relations.proofs.Calls.{some_from_any}
 use Rattle.range_test.proofs.strays.stray_from.Goals as goal
 
 pub returns : goal.returns

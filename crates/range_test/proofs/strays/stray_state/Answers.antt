@@ -5,7 +5,7 @@ use Rattle.std.proofs.Common.{rules, tests}
 use Rattle.automaton.specs.Automata.{stray_state}
 use Rattle.automaton.specs.Sets.{member}
 use Rattle.automaton.proofs.Members.{some_skip, stray_below, stray_above}
-use Rattle.range_test.proofs.OverRanges.{some_from_any, some_same_from}
+use Rattle.relations.proofs.Calls.{some_from_any, some_same_from}
 use Rattle.range_test.proofs.strays.stray_state.Goals as goal
 
 pub returns : goal.returns
