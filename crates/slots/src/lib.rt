@@ -31,6 +31,7 @@ pub fn slot_count(len: usize) -> usize
 }
 
 // Writes a slot to the front of the part that is lent.
+#[tactic(auto, using(crate::proofs::SlotLayout::slot_written))]
 pub fn put_slot(part: &mut [u8], v: Vertex, letter: u8, parent: usize)
     requires { (slot_size ≤ length part.old) × (parent < 65536) }
     ensures { part.new ≡ slot_bytes v letter parent ++ drop slot_size part.old }
@@ -42,6 +43,7 @@ pub fn put_slot(part: &mut [u8], v: Vertex, letter: u8, parent: usize)
 }
 
 // Writes slot s of the work buffer, which is lent to the slot writer from that slot's offset on.
+#[tactic(auto, unfolding(crate::specs::Bytes::with_slot), using(crate::proofs::SlotLayout::part_back))]
 pub fn write_slot(work: &mut [u8], s: usize, v: Vertex, letter: u8, parent: usize)
     requires { (s < slot_count (length work.old)) × (parent < 65536) }
     ensures { work.new ≡ with_slot work.old s v letter parent }
@@ -51,6 +53,7 @@ pub fn write_slot(work: &mut [u8], s: usize, v: Vertex, letter: u8, parent: usiz
 }
 
 // The vertex in slot s.
+#[tactic(auto, unfolding(crate::specs::Bytes::vertex_at))]
 pub fn load(work: &[u8], s: usize) -> Vertex
     requires { s < slot_count (length work.now) }
     ensures { result ≡ vertex_at work.now s }
