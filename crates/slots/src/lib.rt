@@ -85,6 +85,7 @@ pub fn parent_of(work: &[u8], s: usize) -> usize
 }
 
 // The number of letters on the way to slot s.
+#[tactic(auto, using(crate::proofs::Words::word_none, crate::proofs::Words::word_longer, crate::proofs::Words::word_few))]
 pub fn word_length(work: &[u8], s: usize) -> usize
     requires { (s < slot_count (length work.now)) × Falls work.now s }
     ensures { result ≡ length (word_at work.now s) }
@@ -99,6 +100,7 @@ pub fn word_length(work: &[u8], s: usize) -> usize
 }
 
 // Writes the letters on the way to slot s to the front of word, first letter first, and answers how many there are.
+#[tactic(auto, using(crate::proofs::Words::word_none, crate::proofs::Words::word_longer, crate::proofs::Words::letter_behind))]
 pub fn read_back(work: &[u8], s: usize, word: &mut [u8]) -> usize
     requires { (s < slot_count (length work.now)) × Falls work.now s × (length (word_at work.now s) ≤ length word.old) }
     ensures count { result ≡ length (word_at work.now s) }
