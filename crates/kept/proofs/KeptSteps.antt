@@ -7,10 +7,12 @@ use mathlib.Core.List.{List}
 use Prim.Native.Nat.{ℕ, suc, ◌+◌, ◌*◌, ◌%◌, ◌≤◌, ◌<◌}
 use native.Mathlib.Omega.{arith}
 use borrow.Author.Tests.{eqb-true, eqb-false, ltb-true, ltb-false}
+use borrow.Rule.Slice.PartMut.{mid_of, put_mid}
 use lib.Dec.{eqb, ltb}
-use lib.ListN.{length, get_or, set, replicate, length-set, length-replicate, get_or-replicate}
-use lib.Seq.{get_or-set_same, get_or-set_other}
+use lib.ListN.{length, get_or, set, replicate, length-set, length-replicate, get_or-replicate, length-take, length-drop}
+use lib.Seq.{get_or-set_same, get_or-set_other, drop-drop}
 use Rattle.automaton.specs.Automata.{max_letters}
+use Rattle.automaton.specs.Ranges.{table}
 use Rattle.relations.specs.Rows.{changed_rows}
 use Rattle.relations.proofs.Rows.{changed_length, changed_row, changed_kept}
 use Rattle.slots.specs.declared.Vertex.{Vertex}
@@ -19,6 +21,14 @@ use Rattle.classes.specs.Classes.{counters_at}
 use Rattle.classes.proofs.Leaders.{class_later}
 use Rattle.classes.proofs.Appended.{class_same}
 use Rattle.kept.specs.Kept.{lines, line_length, kept_after, after_side, KeptStep, KeptLines}
+
+-- a line that is filled with 0
+pub line_cleared : (places part : List ℕ) (at n : ℕ) → at + line_length ≤ length places → n ≡ line_length
+    → part ≡ replicate (length (mid_of at n places)) 0 → put_mid at n places part ≡ changed_rows at line_length (λ i. 0) places
+unfolding changed_rows table
+line_cleared places part at n room e f =
+    let l : length (mid_of at n places) ≡ line_length = simp (length-take, length-drop) (omega arith) in
+    rw (f, l, e, drop-drop line_length at places)
 
 -- places that are the same say the same
 step_same : (tops m : List ℕ) (states : ℕ) (work : List ℕ) (n : ℕ) (kept kept' : List ℕ) (at a : ℕ) (f : List ℕ)

@@ -34,6 +34,7 @@ impl Kept {
     }
 
     // The place from which on the line of a class stands. A line that another class had is cleared first.
+    #[tactic(auto, using(crate::proofs::KeptSteps::line_cleared))]
     pub fn line_of(&mut self, class: usize) -> usize
         requires { class < 65536 }
         ensures place { result ≡ class % lines * line_length }
