@@ -1,3 +1,2 @@
--- What the checks of contain and the answer of its walk come to.
-pub mod Decisions
+-- What the answer of contain's walk comes to.
 pub mod WalkAnswers
