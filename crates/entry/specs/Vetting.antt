@@ -1,9 +1,12 @@
--- What the checks of an offered automaton give, as the code has it: a refusal's number, or 0 where there is none.
---   vetted_by n B  the refusal n, or the automaton B where n is 0
+-- What the checks of an offered automaton give, as the code has it.
+--   VettedBy x v B  the checks, which come to v, answer x: they pass the automaton B, or stop with the number of the refusal that offer answers then
 -- Nothing settles it: only contracts between functions name it. Assumes nothing.
-use Rattle.std.specs.Prelude.{cond, ℕ, eqb}
+use Rattle.std.specs.Prelude.{◌≡◌, Result, Ok, Err}
 use Rattle.automaton.specs.declared.Automaton.{Automaton}
+use Rattle.history.specs.declared.OfferRefusal.{OfferRefusal}
+use Rattle.history.specs.OfferAnswers.{Refused, offer_refusal_number, offer_answer}
 use Rattle.history.specs.Opens.{Vetted, stopped, passed}
 
-abbrev pub vetted_by : ℕ → Automaton → Vetted
-vetted_by n B = cond (eqb n 0) (passed B) (stopped n)
+abbrev pub VettedBy : Result (Unit {0}) OfferRefusal → Vetted → Automaton → Type 0
+VettedBy (Ok _) v B = v ≡ passed B
+VettedBy (Err r) v B = (v ≡ stopped (offer_refusal_number r)) × (offer_answer (Err r) ≡ Refused (offer_refusal_number r))

@@ -1,8 +1,10 @@
 // The offer call on an entry.
-ghost use Rattle.std.specs.Prelude.{◌≡◌, ℕ, ◌≤◌, List, length, take};
-ghost use Rattle.automaton.specs.Automata.{whole_of, InRange};
+ghost use Rattle.std.specs.Prelude.{◌≡◌, ◌≤◌, length, take};
+ghost use Rattle.automaton.specs.Automata.{InRange};
 ghost use Rattle.graph.specs.LagGraph.{max_bound};
-ghost use Rattle.history.specs.Entries.{max_edition, entry_with};
+ghost use Rattle.answers.specs.Outcomes.{comparison_of};
+ghost use Rattle.history.specs.OfferAnswers.{offer_answer};
+ghost use Rattle.history.specs.OfferDemand.{OfferDemand1};
 ghost use Rattle.history.specs.Offers.{
   offer_vetting,
   back_answer,
@@ -11,215 +13,150 @@ ghost use Rattle.history.specs.Offers.{
   walks_work,
   walks_word,
   is_taken,
-  next_edition,
-  entry_on,
   offer_of,
   part_length,
 };
-ghost use Rattle.history.specs.OfferDemand.{OfferDemand1};
-ghost use Rattle.history.specs.OfferAnswers.{Refused};
-ghost use Rattle.entry.specs.Vetting.{vetted_by};
+ghost use Rattle.entry.specs.Vetting.{VettedBy};
 
-use crate::OfferResult;
-use answers::Comparison;
-use automaton::Head;
+use answers::{Containment, WalkRefusal};
+use automaton::{Automaton, Valid};
 use conditions::{MAX_EDITION, malformed, smaller};
 use contain::{MAX_BOUND, compare};
-use history::{EntryHead, OfferAnswer};
+use history::{Entry, OfferRefusal, Offered, Walk};
 
-// The checks of the offered automaton: a refusal's number, or 0.
-fn vet(entry: EntryHead, held: &[u8; 2048], offer: Head, offers: &[u8; 2048], bound: u64) -> usize
-    requires { InRange (whole_of entry.held held.now) × InRange (whole_of offer offers.now) }
-    ensures { vetted_by result (whole_of offer offers.now)
-        ≡ offer_vetting (entry_with entry held.now) bound (whole_of offer offers.now) }
+// The checks of the offered automaton, against an entry whose automaton is in range.
+fn vet(entry: &Entry, offer: Valid, bound: u64) -> Result<(), OfferRefusal>
+    requires { InRange entry.now.held }
+    ensures { VettedBy result (offer_vetting entry.now bound offer.entry.automaton.now) offer.entry.automaton.now }
 {
     if bound > MAX_BOUND {
-        return 8;
+        return Err(OfferRefusal::Bound);
     }
-    if entry.held.letters != offer.letters {
-        return 7;
+    if entry.held.letters != offer.automaton.letters {
+        return Err(OfferRefusal::Letters);
     }
-    if deadend::has_dead(offer, offers) {
-        return 6;
+    if deadend::has_dead(offer) {
+        return Err(OfferRefusal::Dead);
     }
-    if !smaller(offer, offers, entry.held, held) {
-        return 14;
+    let held = Valid {
+        automaton: &entry.held,
+    };
+    if !smaller(offer, held) || entry.edition == MAX_EDITION {
+        return Err(OfferRefusal::NotSmaller);
     }
-    if entry.edition == MAX_EDITION {
-        return 14;
-    }
-    0
+    Ok(())
 }
 
 // The answer by the back walk, after a forward walk of so many vertices.
-fn back_answer(count: usize, back: Comparison) -> OfferAnswer
-    ensures { result ≡ back_answer count back }
+fn back_answer(
+    forward: usize,
+    back: Result<Containment, WalkRefusal>,
+) -> Result<Offered, OfferRefusal>
+    ensures { offer_answer result ≡ back_answer forward (comparison_of back) }
 {
     match back {
-        Comparison::Contained(listed) => OfferAnswer::Taken(count, listed),
-        Comparison::Differs(place, len) => OfferAnswer::Back(count, place, len),
-        Comparison::NoSlots(slots) => OfferAnswer::NoSlots(2, slots),
-        Comparison::NoRoom(len) => OfferAnswer::NoRoom(2, len),
+        Ok(Containment::Contained(back)) => Ok(Offered::Taken { forward, back }),
+        Ok(Containment::Differs { place, len }) => Ok(Offered::Back {
+            forward,
+            back: place,
+            len,
+        }),
+        Err(refusal) => Err(OfferRefusal::Walk(Walk::Back, refusal)),
     }
 }
 
 // The forward walk and, where it finds containment, the back walk, which begins in slot 0 again.
 fn walk_both(
-    held: Head,
-    helds: &[u8; 2048],
-    offer: Head,
-    offers: &[u8; 2048],
+    held: Valid,
+    offer: Valid,
     bound: usize,
     work: &mut [u8],
     word: &mut [u8],
-) -> OfferAnswer
-    requires { InRange (whole_of held helds.now) × InRange (whole_of offer offers.now) × (bound ≤ max_bound) }
-    ensures answer { result ≡ walks_answer (walks_of (whole_of held helds.now) (whole_of offer offers.now) bound work.old word.old) }
+) -> Result<Offered, OfferRefusal>
+    requires { bound ≤ max_bound }
+    ensures answer { offer_answer result
+        ≡ walks_answer (walks_of held.entry.automaton.now offer.entry.automaton.now bound work.old word.old) }
     ensures work { work.new
-        ≡ walks_work (walks_of (whole_of held helds.now) (whole_of offer offers.now) bound work.old word.old) }
+        ≡ walks_work (walks_of held.entry.automaton.now offer.entry.automaton.now bound work.old word.old) }
     ensures word { word.new
-        ≡ walks_word (walks_of (whole_of held helds.now) (whole_of offer offers.now) bound work.old word.old) }
+        ≡ walks_word (walks_of held.entry.automaton.now offer.entry.automaton.now bound work.old word.old) }
 {
-    match compare(held, helds, offer, offers, bound, work, word) {
-        Comparison::Contained(count) => {
-            back_answer(
-                count,
-                compare(offer, offers, held, helds, bound, work, word),
-            )
-        }
-        Comparison::Differs(place, len) => OfferAnswer::Forward(place, len),
-        Comparison::NoSlots(slots) => OfferAnswer::NoSlots(1, slots),
-        Comparison::NoRoom(len) => OfferAnswer::NoRoom(1, len),
+    match compare(held, offer, bound, work, word) {
+        Ok(Containment::Contained(forward)) => back_answer(
+            forward,
+            compare(offer, held, bound, work, word),
+        ),
+        Ok(Containment::Differs { place, len }) => Ok(Offered::Forward {
+            forward: place,
+            len,
+        }),
+        Err(refusal) => Err(OfferRefusal::Walk(Walk::Forward, refusal)),
     }
 }
 
 // Whether the answer is "taken".
-pub fn is_taken(answer: OfferAnswer) -> bool
-    ensures { result ≡ is_taken answer }
+pub fn is_taken(offered: Result<Offered, OfferRefusal>) -> bool
+    ensures { result ≡ is_taken (offer_answer offered) }
 {
-    match answer {
-        OfferAnswer::Taken(_, _) => true,
-        OfferAnswer::Forward(_, _) => false,
-        OfferAnswer::Back(_, _, _) => false,
-        OfferAnswer::Refused(_) => false,
-        OfferAnswer::NoSlots(_, _) => false,
-        OfferAnswer::NoRoom(_, _) => false,
-    }
+    matches!(offered, Ok(Offered::Taken { .. }))
 }
 
-// An offer that the checks refuse.
-fn refused(entry: EntryHead, number: usize) -> OfferResult
-    ensures { (result.answer ≡ Refused number) × (result.entry ≡ entry) }
-{
-    OfferResult {
-        answer: OfferAnswer::Refused(number),
-        entry,
-    }
-}
-
-// The entry after the offer is taken, of which this is the head.
-fn next_edition(entry: EntryHead, offer: Head) -> EntryHead
-    requires { entry.edition ≤ max_edition }
-    ensures { (t u : List ℕ) → entry_with result u ≡ next_edition (entry_with entry t) (whole_of offer u) }
-{
-    EntryHead {
-        filled: true,
-        edition: entry.edition + 1,
-        first: entry.first,
-        held: offer,
-    }
-}
-
-// The answer of the walks with the entry that it leaves: the offer's transitions are held where it is taken.
-fn settle(
-    entry: EntryHead,
-    held: &mut [u8; 2048],
-    offer: Head,
-    offers: &[u8; 2048],
-    answer: OfferAnswer,
-) -> OfferResult
-    requires { entry.edition ≤ max_edition }
-    ensures answer { result.answer ≡ answer }
-    ensures entry { entry_with result.entry held.new ≡ entry_on (entry_with entry held.old) (whole_of offer offers.now) answer }
-{
-    if is_taken(answer) {
-        *held = *offers;
-        OfferResult {
-            answer,
-            entry: next_edition(entry, offer),
-        }
-    } else {
-        OfferResult { answer, entry }
-    }
-}
-
-// Offers the file's automaton as the next edition: the answer, the entry, every byte of work and word, and demand 1 in its own words. The held
-// transitions are written where the offer is taken.
+// Offers the file's automaton as the next edition: the answer, the entry, which only "taken" changes, every byte of work and word, and demand 1 in its
+// own words.
+#[tactic(auto, unfolding(history::specs::Offers::offer_of, history::specs::Offers::offer_checks, automaton::specs::Automata::bare))]
 pub fn offer_entry(
-    entry: EntryHead,
-    held: &mut [u8; 2048],
+    entry: &mut Entry,
     file: &[u8],
     bound: u64,
     work: &mut [u8],
     word: &mut [u8],
-) -> OfferResult
-    ensures answer { result.answer ≡ (offer_of (entry_with entry held.old) file.now bound work.old word.old).answer }
-    ensures entry { entry_with result.entry held.new
-        ≡ (offer_of (entry_with entry held.old) file.now bound work.old word.old).entry }
-    ensures work { work.new
-        ≡ (offer_of (entry_with entry held.old) file.now bound work.old word.old).work }
-    ensures word { word.new
-        ≡ (offer_of (entry_with entry held.old) file.now bound work.old word.old).word }
-    ensures demand1 { OfferDemand1 (entry_with entry held.old) file.now bound work.old word.old }
+) -> Result<Offered, OfferRefusal>
+    ensures answer { offer_answer result ≡ (offer_of entry.old file.now bound work.old word.old).answer }
+    ensures entry { entry.new ≡ (offer_of entry.old file.now bound work.old word.old).entry }
+    ensures work { work.new ≡ (offer_of entry.old file.now bound work.old word.old).work }
+    ensures word { word.new ≡ (offer_of entry.old file.now bound work.old word.old).word }
+    ensures demand1 { OfferDemand1 entry.old file.now bound work.old word.old }
 {
-    if malformed(entry, held) {
-        return refused(entry, 9);
+    if malformed(entry) {
+        return Err(OfferRefusal::Malformed);
     }
     if !entry.filled {
-        return refused(entry, 13);
+        return Err(OfferRefusal::Empty);
     }
-    let mut offers = [0u8; 2048];
-    let reading = file::read(file, &mut offers);
-    if reading.refusal != 0 {
-        return refused(entry, reading.refusal);
+    let mut automaton = Automaton::empty();
+    file::read(file, &mut automaton).map_err(OfferRefusal::File)?;
+    let offer = Valid {
+        automaton: &automaton,
+    };
+    vet(entry, offer, bound)?;
+    let held = Valid {
+        automaton: &entry.held,
+    };
+    let offered = walk_both(held, offer, bound as usize, work, word);
+    if is_taken(offered) {
+        entry.edition += 1;
+        entry.held = automaton;
     }
-    let refusal = vet(entry, held, reading.head, &offers, bound);
-    if refusal != 0 {
-        return refused(entry, refusal);
-    }
-    let answer = walk_both(
-        entry.held,
-        held,
-        reading.head,
-        &offers,
-        bound as usize,
-        work,
-        word,
-    );
-    settle(entry, held, reading.head, &offers, answer)
+    offered
 }
 
 // The length of the word that an answer comes with: 0 where there is no word.
-pub fn part_length(answer: OfferAnswer) -> usize
-    ensures { result ≡ part_length answer }
+pub fn part_length(offered: Result<Offered, OfferRefusal>) -> usize
+    ensures { result ≡ part_length (offer_answer offered) }
 {
-    match answer {
-        OfferAnswer::Taken(_, _) => 0,
-        OfferAnswer::Forward(_, len) => len,
-        OfferAnswer::Back(_, _, len) => len,
-        OfferAnswer::Refused(_) => 0,
-        OfferAnswer::NoSlots(_, _) => 0,
-        OfferAnswer::NoRoom(_, _) => 0,
+    match offered {
+        Ok(Offered::Forward { len, .. } | Offered::Back { len, .. }) => len,
+        Ok(Offered::Taken { .. }) | Err(_) => 0,
     }
 }
 
 // The word that an offer's answer comes with, as the written part of the word buffer that the offer left, which is not copied; without
 // a word the part is empty.
-pub fn offer_part<'a>(answer: OfferAnswer, word: &'a mut [u8]) -> &'a mut [u8]
-    requires { part_length answer ≤ length word.old }
-    ensures part { result.now ≡ take (part_length answer) word.old }
+pub fn offer_part<'a>(offered: Result<Offered, OfferRefusal>, word: &'a mut [u8]) -> &'a mut [u8]
+    requires { part_length (offer_answer offered) ≤ length word.old }
+    ensures part { result.now ≡ take (part_length (offer_answer offered)) word.old }
     ensures place { result.ref_ptr ≡ word.entry.ref_ptr }
 {
-    let n = part_length(answer);
+    let n = part_length(offered);
     &mut word[..n]
 }

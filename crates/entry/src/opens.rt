@@ -1,62 +1,36 @@
 // The open call on an entry.
-ghost use Rattle.std.specs.Prelude.{◌≡◌, ℕ, List};
-ghost use Rattle.automaton.specs.Automata.{whole_of};
-ghost use Rattle.history.specs.Entries.{entry_with};
+ghost use Rattle.std.specs.Prelude.{◌≡◌};
+ghost use Rattle.history.specs.OpenAnswers.{open_answer};
 ghost use Rattle.history.specs.OpenDemand.{OpenDemand1};
-ghost use Rattle.history.specs.Opens.{first_edition, open_of};
-ghost use Rattle.history.specs.OpenAnswers.{Refused};
+ghost use Rattle.history.specs.Opens.{open_of};
 
-use crate::OpenResult;
-use automaton::Head;
+use automaton::{Automaton, Valid};
 use conditions::malformed;
-use history::{EntryHead, OpenAnswer};
+use history::{Entry, OpenRefusal};
 
-// The entry stays where open is refused.
-fn refused(entry: EntryHead, number: usize) -> OpenResult
-    ensures { (result.answer ≡ Refused number) × (result.entry ≡ entry) }
+// Opens an empty entry with the file's automaton: the answer, the entry, which a refusal leaves as it is, and demand 1 in its own words.
+#[tactic(auto, unfolding(history::specs::Opens::open_of, history::specs::Opens::open_checks, automaton::specs::Automata::bare))]
+pub fn open_entry(entry: &mut Entry, file: &[u8]) -> Result<(), OpenRefusal>
+    ensures answer { open_answer result ≡ (open_of entry.old file.now).answer }
+    ensures entry { entry.new ≡ (open_of entry.old file.now).entry }
+    ensures demand1 { OpenDemand1 entry.old file.now }
 {
-    OpenResult {
-        answer: OpenAnswer::Refused(number),
-        entry,
-    }
-}
-
-// The entry of an opened automaton, of which this is the head.
-fn first_edition(head: Head) -> EntryHead
-    ensures { (t : List ℕ) → entry_with result t ≡ first_edition (whole_of head t) }
-{
-    EntryHead {
-        filled: true,
-        edition: 0,
-        first: head.states,
-        held: head,
-    }
-}
-
-// Opens an empty entry with the file's automaton: the answer, the entry, and demand 1 in its own words. The held transitions are written where
-// the entry is opened.
-pub fn open_entry(entry: EntryHead, held: &mut [u8; 2048], file: &[u8]) -> OpenResult
-    ensures answer { result.answer ≡ (open_of (entry_with entry held.old) file.now).answer }
-    ensures entry { entry_with result.entry held.new ≡ (open_of (entry_with entry held.old) file.now).entry }
-    ensures demand1 { OpenDemand1 (entry_with entry held.old) file.now }
-{
-    if malformed(entry, held) {
-        return refused(entry, 9);
+    if malformed(entry) {
+        return Err(OpenRefusal::Malformed);
     }
     if entry.filled {
-        return refused(entry, 12);
+        return Err(OpenRefusal::Filled);
     }
-    let mut transitions = [0u8; 2048];
-    let reading = file::read(file, &mut transitions);
-    if reading.refusal != 0 {
-        return refused(entry, reading.refusal);
+    let mut held = Automaton::empty();
+    file::read(file, &mut held).map_err(OpenRefusal::File)?;
+    if deadend::has_dead(Valid { automaton: &held }) {
+        return Err(OpenRefusal::Dead);
     }
-    if deadend::has_dead(reading.head, &transitions) {
-        return refused(entry, 6);
-    }
-    *held = transitions;
-    OpenResult {
-        answer: OpenAnswer::Opened,
-        entry: first_edition(reading.head),
-    }
+    *entry = Entry {
+        filled: true,
+        edition: 0,
+        first: held.states,
+        held,
+    };
+    Ok(())
 }

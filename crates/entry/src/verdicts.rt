@@ -1,29 +1,30 @@
 // The verdict call on an entry.
 ghost use Rattle.std.specs.Prelude.{◌≡◌};
-ghost use Rattle.history.specs.Entries.{entry_with};
+ghost use Rattle.history.specs.VerdictAnswers.{verdict_answer};
 ghost use Rattle.history.specs.VerdictDemand.{VerdictDemand1};
 ghost use Rattle.history.specs.Verdicts.{verdict_of};
 
+use automaton::Valid;
 use conditions::{bad_lasso, malformed};
-use history::{EntryHead, VerdictAnswer};
+use history::{Entry, VerdictRefusal};
 
 // Whether the entry's automaton accepts the lasso word of the stem and the loop `cycle`, and demand 1 in its own words.
-pub fn verdict(entry: EntryHead, held: &[u8; 2048], stem: &[u8], cycle: &[u8]) -> VerdictAnswer
-    ensures answer { result ≡ verdict_of (entry_with entry held.now) stem.now cycle.now }
-    ensures demand1 { VerdictDemand1 (entry_with entry held.now) stem.now cycle.now }
+#[tactic(auto, unfolding(history::specs::Verdicts::verdict_of))]
+pub fn verdict(entry: &Entry, stem: &[u8], cycle: &[u8]) -> Result<bool, VerdictRefusal>
+    ensures answer { verdict_answer result ≡ verdict_of entry.now stem.now cycle.now }
+    ensures demand1 { VerdictDemand1 entry.now stem.now cycle.now }
 {
-    if malformed(entry, held) {
-        return VerdictAnswer::Refused(9);
+    if malformed(entry) {
+        return Err(VerdictRefusal::Malformed);
     }
     if !entry.filled {
-        return VerdictAnswer::Refused(13);
+        return Err(VerdictRefusal::Empty);
     }
     if bad_lasso(entry.held.letters, stem, cycle) {
-        return VerdictAnswer::Refused(15);
+        return Err(VerdictRefusal::BadLasso);
     }
-    if verdict::accepted(entry.held, held, stem, cycle) {
-        VerdictAnswer::Yes
-    } else {
-        VerdictAnswer::No
-    }
+    let held = Valid {
+        automaton: &entry.held,
+    };
+    Ok(verdict::accepted(held, stem, cycle))
 }
