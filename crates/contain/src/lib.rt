@@ -45,11 +45,13 @@ pub fn compare(
 {
     match walk::walk(left, right, bound, work) {
         Ok(count) => Ok(Containment::Contained(count)),
-        Err(Stop::Final {
-            place,
-            letter,
-            parent,
-        }) => {
+        Err(
+            Stop::Final {
+                place,
+                letter,
+                parent,
+            },
+        ) => {
             let len = walk::final_word(work, place, letter, parent, word);
             differing(place, len, word.len())
         }
