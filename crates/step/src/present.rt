@@ -3,7 +3,7 @@ ghost use Rattle.std.specs.Prelude.{◌≡◌, cond, ◌+◌, ◌<◌, ◌≤◌
 ghost use Rattle.automaton.specs.Automata.{max_states};
 ghost use Rattle.step.specs.Steps.{PresentOf, places_after};
 
-// The first `count` places hold the states, lowest first; the places after them are room to work in.
+// The first `count` places hold the states, lowest first; the places after them are room to work in, since there is no heap.
 #[derive(Clone, Copy)]
 pub struct Present {
     pub count: usize,
