@@ -57,7 +57,7 @@ no_slots_number e = cc
 -- "differs" is said only where the word has room
 differs_room : (c : Bool) (i len j size : ℕ) → Compared (cond c (Differs j size) (NoRoom size)) ≡ differs i len → c ≡ true
 differs_room true i len j size e = refl
-differs_room false i len j size e = let z : ◌≡◌ {A = ℕ} 0 1 = cc in absurd (omega arith)
+differs_room false i len j size e = absurd cc
 
 -- a word that has room, or has none
 room_cases : (c : Bool) (x : Outcome) (i len : ℕ) → x ≡ Compared (cond c (Differs i len) (NoRoom len))

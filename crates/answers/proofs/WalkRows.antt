@@ -3,7 +3,6 @@
 use mathlib.Core.Path.{◌≡◌, subst}
 use mathlib.Core.List.{List}
 use Prim.Native.Nat.{ℕ}
-use native.Mathlib.Omega.{arith}
 use Rattle.automaton.specs.declared.Automaton.{Automaton}
 use Rattle.slots.specs.declared.Vertex.{Vertex}
 use Rattle.graph.specs.Discovery.{Node, Walk, going, ended}
@@ -18,7 +17,7 @@ ended_same : {w : Walk Vertex} {ns ms : List (Node Vertex)} {n m : Node Vertex} 
 ended_same e d = (cc, cc)
 
 going_not_ended : {w : Walk Vertex} {ns ms : List (Node Vertex)} {m : Node Vertex} → w ≡ going ns → w ≡ ended ms m → ⊥
-going_not_ended {w = w} e d = let z : ◌≡◌ {A = ℕ} 0 1 = cc in omega arith
+going_not_ended {w = w} e d = cc
 
 module _ {A B : Automaton} {b S : ℕ} where
   whole_walk : {P : List (Node Vertex) → Type 0} (p : Whole A B b S P) → walk_of A B b S ≡ going p.nodes

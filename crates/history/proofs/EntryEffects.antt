@@ -4,7 +4,6 @@ use mathlib.Core.Path.{◌≡◌, refl, ap}
 use mathlib.Core.Bool.{false, cond}
 use mathlib.Core.List.{List}
 use Prim.Native.Nat.{ℕ}
-use native.Mathlib.Omega.{arith}
 use Rattle.automaton.specs.declared.Automaton.{Automaton}
 use Rattle.format.specs.File.{holds, read_file}
 use Rattle.format.proofs.FileLaws.{read_same}
@@ -24,7 +23,7 @@ module _ (E : Entry) (f : List ℕ) where
     LeftOpened v = (opened E v).answer ≡ Opened → (opened E v).entry ≡ first_edition B
 
     not_opened : (n : ℕ) → LeftOpened (stopped n)
-    not_opened n e = let z : ◌≡◌ {A = ℕ} 0 1 = cc in absurd (omega arith)
+    not_opened n e = absurd cc
 
     pub open_entry : (open_of E f).answer ≡ Opened → (open_of E f).entry ≡ first_edition B
     unfolding open_of open_checks
@@ -41,7 +40,7 @@ module _ (E : Entry) (f : List ℕ) where
     where
       go : (v : Vetted) → (opened E v).answer ≡ Refused n → (opened E v).entry ≡ E
       go (stopped m) e = refl
-      go (passed A) e = let z : ◌≡◌ {A = ℕ} 0 1 = cc in absurd (omega arith)
+      go (passed A) e = absurd cc
 
 module _ (E : Entry) (f : List ℕ) (b : ℕ) (work word : List ℕ) where
   module _ (B : Automaton) (r : read_file f ≡ holds B) where

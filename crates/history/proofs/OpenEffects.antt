@@ -5,7 +5,6 @@ use mathlib.Core.Bool.{false}
 use mathlib.Core.Logic.{inl, inr}
 use mathlib.Core.List.{List}
 use Prim.Native.Nat.{ℕ}
-use native.Mathlib.Omega.{arith}
 use Rattle.automaton.specs.declared.Automaton.{Automaton}
 use Rattle.runs.specs.DeadStates.{Dead}
 use Rattle.automaton.proofs.Booleans.{T_true, not_T_false, clash}
@@ -29,7 +28,7 @@ module _ (E : Entry) (f : List ℕ) where
         → ((open_of E f).answer ≡ Opened → ⊥) → OpenEffect
 
   refused_effect : (n : ℕ) → (open_of E f).answer ≡ Refused n → (E.filled ≡ false → (B : Automaton) → FirstEdition f B → ⊥) → OpenEffect
-  refused_effect n e u = opens_none u (open_keeps E f n e) (λ d. let z : ◌≡◌ {A = ℕ} 0 1 = cc in omega arith)
+  refused_effect n e u = opens_none u (open_keeps E f n e) (λ d. cc)
 
   row_effect : First (open_rows E f) (open_of E f).answer → OpenEffect
   row_effect (inl p) = refused_effect 9 p.1 (λ e. clash p.0.0 e)
