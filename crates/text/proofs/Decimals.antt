@@ -1,71 +1,21 @@
--- The equations of the decimal digits, whatever the fuel of the definition, and the bound of their number. Assumes nothing.
-use mathlib.Core.Path.{◌≡◌, refl, sym, ap, ◌∙◌}
-use mathlib.Core.Bool.{Bool, true, false}
-use mathlib.Core.List.{List, [], ◌∷◌, ◌++◌}
-use Prim.Native.Nat.{ℕ, zero, suc, ◌+◌, ◌/◌, ◌%◌, ◌^◌, ◌≤◌, ◌<◌}
-use native.Mathlib.Nat.{pow-suc}
+-- The decimal digits are those of the library, whatever the fuel of the definition, and the bound of their number. Assumes nothing.
+use mathlib.Core.Path.{◌≡◌, ap}
+use Prim.Native.Nat.{ℕ, suc, ◌^◌, ◌≤◌, ◌<◌}
 use native.Mathlib.Omega.{arith}
-use lib.Dec.{ltb}
-use lib.ListN.{length, length-append}
-use borrow.Author.Tests.{lt-ltb, le-ltb, ltb-true, ltb-false}
-use Rattle.buffers.specs.declared.Cursor.{Cursor}
-use Rattle.buffers.specs.Cursors.{Added}
+use lib.ListN.{length}
+use borrow.Author.Tests.{lt-ltb, le-ltb}
+use Rattle.std.specs.Fmt as std
+use Rattle.std.proofs.lemmas.Fmt.{AppendsLastDigit, decimal_from_appends, length-decimal-le, length-decimal-le_succ}
 use Rattle.text.specs.Text.{digits, decimal}
-use Rattle.buffers.proofs.Cursors.{added_append, added_as}
 
--- one digit
-digits_digit : (k n : ℕ) → n < 10 → digits (suc k) n ≡ (0x30 + n) ∷ []
+last_digit : AppendsLastDigit digits
 unfolding digits
-digits_digit k n h = rw (digits, lt-ltb n 10 h)
+last_digit = record { one = λ k n h. rw (digits, lt-ltb n 10 h); more = λ k n h. rw (digits, le-ltb n 10 h) }
 
--- a last digit behind the others
-digits_more : (k n : ℕ) → 10 ≤ n → digits (suc k) n ≡ digits k (n / 10) ++ (0x30 + n % 10) ∷ []
-unfolding digits
-digits_more k n h = rw (digits, le-ltb n 10 h)
-
--- fuel above the number is enough
-digits_enough : (j k n : ℕ) → n < j → n < k → digits j n ≡ digits k n
-digits_enough zero k n g h = absurd (omega arith)
-digits_enough (suc j) zero n g h = absurd (omega arith)
-digits_enough (suc j) (suc k) n g h = go (λ m a b. digits_enough j k m a b) (ltb n 10) refl
-  where
-    go : ((m : ℕ) → m < j → m < k → digits j m ≡ digits k m) → (c : Bool) → ltb n 10 ≡ c → digits (suc j) n ≡ digits (suc k) n
-    go ih true e = let l = ltb-true n 10 e in digits_digit j n l ∙ sym (digits_digit k n l)
-    go ih false e =
-        let l = ltb-false n 10 e in
-        digits_more j n l
-        ∙ ap (λ (x : List ℕ). x ++ (0x30 + n % 10) ∷ []) (ih (n / 10) (omega arith) (omega arith))
-        ∙ sym (digits_more k n l)
-
-pub decimal_digit : (n : ℕ) → n < 10 → decimal n ≡ (0x30 + n) ∷ []
+pub decimal_library : (n : ℕ) → n < 2 ^ 64 → decimal n ≡ std.decimal n
 unfolding decimal
-decimal_digit n h = digits_digit n n h
-
-pub decimal_more : (n : ℕ) → 10 ≤ n → decimal n ≡ decimal (n / 10) ++ (0x30 + n % 10) ∷ []
-unfolding decimal
-decimal_more n h =
-    digits_more n n h
-    ∙ ap (λ (l : List ℕ). l ++ (0x30 + n % 10) ∷ []) (digits_enough n (suc (n / 10)) (n / 10) (omega arith) (omega arith))
+decimal_library n h = decimal_from_appends digits last_digit (suc n) n h (omega (arith, length-decimal-le_succ n h))
 
 -- a number below a power of ten has no more digits than the power
-pub decimal_length : (k n : ℕ) → n < 10 ^ suc k → length (decimal n) ≤ suc k
-decimal_length zero n h = omega (arith, ap length (decimal_digit n (omega (arith, pow-suc 10 0))))
-decimal_length (suc k) n h = go (λ m l. decimal_length k m l) (ltb n 10) refl
-  where
-    go : ((m : ℕ) → m < 10 ^ suc k → length (decimal m) ≤ suc k) → (c : Bool) → ltb n 10 ≡ c → length (decimal n) ≤ suc (suc k)
-    go ih true e = omega (arith, ap length (decimal_digit n (ltb-true n 10 e)))
-    go ih false e =
-        let more = ap length (decimal_more n (ltb-false n 10 e)) ∙ length-append (decimal (n / 10)) ((0x30 + n % 10) ∷ []) in
-        omega (arith, more, ih (n / 10) (omega (arith, pow-suc 10 (suc k))))
-
-pub decimal_more_length : (n : ℕ) → 10 ≤ n → length (decimal n) ≡ length (decimal (n / 10)) + 1
-decimal_more_length n h = ap length (decimal_more n h) ∙ length-append (decimal (n / 10)) ((0x30 + n % 10) ∷ [])
-
--- a single digit is written, and a last digit behind the others
-pub added_digit : {c d : Cursor} (n b : ℕ) → n < 10 → b ≡ 0x30 + n → Added c (b ∷ []) d → Added c (decimal n) d
-added_digit n b h q w = added_as (ap (λ (x : ℕ). x ∷ []) q ∙ sym (decimal_digit n h)) w
-
-pub added_last_digit : {c d e : Cursor} (n b : ℕ) → 10 ≤ n
-    → Added c (decimal (n / 10)) d → b ≡ 0x30 + n % 10 → Added d (b ∷ []) e → Added c (decimal n) e
-added_last_digit n b h u q w =
-    added_as (ap (λ (x : ℕ). decimal (n / 10) ++ (x ∷ [])) q ∙ sym (decimal_more n h)) (added_append u w)
+pub decimal_length : (k n : ℕ) → n < 10 ^ suc k → n < 2 ^ 64 → length (decimal n) ≤ suc k
+decimal_length k n l h = omega (arith, ap length (decimal_library n h), length-decimal-le (suc k) n (omega arith) l h)

@@ -5,26 +5,15 @@ ghost use Rattle.text.specs.Text.{decimal, space};
 ghost use Rattle.text.specs.Text.{letters as letters_text};
 
 use buffers::Cursor;
+use itoa::Buffer;
 
-// The byte of a decimal digit.
-fn digit(n: usize) -> u8
-    requires { n < 10 }
-    ensures { result ≡ 0x30 + n }
-{
-    b'0' + n as u8
-}
-
-// Writes a number in decimal, the digits before the last one first.
+// Writes the decimal digits of a number.
 fn put_digits(line: &mut Cursor, n: usize)
     requires { HasRoom line.old (length (decimal n)) }
     ensures { Added line.old (decimal n) line.new }
 {
-    if n < 10 {
-        line.put_byte(digit(n));
-    } else {
-        put_digits(line, n / 10);
-        line.put_byte(digit(n % 10));
-    }
+    let mut buffer = Buffer::new();
+    line.put_text(buffer.format(n).as_bytes());
 }
 
 // Writes a number in decimal, at most 20 bytes.

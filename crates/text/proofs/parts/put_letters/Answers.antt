@@ -3,16 +3,13 @@
 use mathlib.Core.Path.{sym}
 use native.Mathlib.Omega.{arith}
 use Rattle.text.specs.Text.{letters}
-use Rattle.buffers.proofs.Cursors.{added_nothing, added_append, added_as, added_length}
+use Rattle.buffers.proofs.Cursors.{added_nothing, added_append, added_as}
 use Rattle.text.proofs.Letters.{letters_more}
 use Rattle.text.proofs.parts.put_letters.Goals as goal
 
 pub loop-letter-init : goal.loop-letter-init
 unfolding letters
 loop-letter-init c = record { added = added_nothing c.args.line.now (omega arith); upper_bound = omega arith }
-
-pub put_letter-requires : goal.put_letter-requires
-put_letter-requires c = omega (arith, added_length c.loop-letter.invariant.added)
 
 pub loop-letter-preserved : goal.loop-letter-preserved
 loop-letter-preserved c = let l = c.loop-letter in

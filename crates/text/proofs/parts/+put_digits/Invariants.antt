@@ -1,5 +1,0 @@
--- `text::parts::put_digits` meets its contract, by the equations of the decimal digits. The measure is the number. Assumes nothing.
-use Rattle.text.proofs.parts.+put_digits.Given as goal
-
-abbrev pub decreases-put_digits : goal.decreases-put_digits
-decreases-put_digits l = l.n
