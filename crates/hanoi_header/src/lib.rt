@@ -14,7 +14,7 @@ use std::ops::Range;
 use tokens::{Numeral, name_at, number_at, token};
 
 // A header's values, and the place where the body begins.
-#[derive(Clone, Copy)]
+#[derive(Clone, Copy, Default)]
 pub struct Header {
     pub states: usize,
     pub start: usize,

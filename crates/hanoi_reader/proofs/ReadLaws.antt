@@ -1,43 +1,40 @@
 -- How a reading goes on after a step of the body, with what the code holds of it: a description, and fuel for at least the bytes that are left. Assumes
 -- nothing.
 use mathlib.Core.Path.{◌≡◌, refl, sym, ap, subst, ◌∙◌}
-use mathlib.Core.Logic.{◌⊎◌, ⊎_elim}
 use mathlib.Core.List.{List}
-use Prim.Native.Nat.{ℕ, zero, suc, ◌+◌, ◌≤◌, ◌<◌}
+use Prim.Native.Nat.{ℕ, zero, suc, ◌+◌, ◌^◌, ◌≤◌, ◌<◌}
 use native.Mathlib.Omega.{arith}
-use lib.ListN.{length, replicate}
+use lib.ListN.{length}
+use Rattle.std.specs.Prelude.{Option, Some, None, Result, Ok, Err, OnOk}
 use Rattle.automaton.specs.declared.Automaton.{Automaton}
-use Rattle.automaton.specs.declared.Head.{Head}
-use Rattle.automaton.specs.Automata.{max_states, whole_of, bare, InRange}
+use Rattle.automaton.specs.Automata.{bare, InRange}
 use Rattle.fixed_form.specs.WriteAnswers.{WriteAnswer}
 use Rattle.fixed_form.specs.WriteAnswers.{Refused as RefusedText}
 use Rattle.fixed_form.specs.Write.{Write, writing}
+use Rattle.hanoi.specs.declared.TextRefusal.{TextRefusal}
+use Rattle.hanoi.specs.Numbers.{text_number}
 use Rattle.hanoi.specs.Descriptions.{Description, headed}
 use Rattle.hanoi.specs.Reading.{Read, refused, describes, Step, over, next, header, part_at, body, read_hanoi}
-use Rattle.hanoi.specs.Meaning.{with_parts, automaton_of, WellFormed}
+use Rattle.hanoi.specs.Meaning.{automaton_of, with_parts}
 use Rattle.hanoi.specs.Hanoi.{hanoi_of}
 use Rattle.hanoi.specs.HanoiDemand.{HanoiDemand1}
 use Rattle.hanoi.proofs.ReadSteps.{body_over, body_on}
 use Rattle.hanoi.proofs.Decided.{hanoi_grammar}
-use Rattle.hanoi.proofs.WellFormed.{header_next_well_formed, part_next_well_formed, hanoi_refusals, hanoi_describes}
+use Rattle.hanoi.proofs.WellFormed.{header_next_well_formed, hanoi_describes}
 use Rattle.hanoi.proofs.HanoiCases.{hanoi_refused, hanoi_read}
 use Rattle.hanoi.proofs.HanoiTheorem.{hanoi_demand_1}
 use Rattle.hanoi_header.specs.declared.Header.{Header}
-use Rattle.hanoi_header.specs.Headers.{headed_by, start_step, PastHeader}
-use Rattle.hanoi_header.specs.declared.Start.{Start}
-use Rattle.hanoi_header.specs.declared.Start.TheVariants.{NoHeader, Begins}
-use Rattle.hanoi_reader.specs.declared.Progress.{Progress}
-use Rattle.hanoi_reader.specs.declared.Progress.TheVariants.{Refused, Whole, Goes}
-use Rattle.hanoi_reader.specs.Taking.{head_of, Headed, Held, Advanced, Taken, described_past, described_before, ReadTo}
+use Rattle.hanoi_header.specs.Headers.{headed_by}
+use Rattle.hanoi_reader.specs.declared.parts.Body.{Body}
+use Rattle.hanoi_reader.specs.Taking.{Headed, begun, Held, Advanced, Taken, described_past, described_before, Described, ReadTo}
 use Rattle.hanoi_reader.proofs.PartLaws.{held_starts}
 
 -- What the code holds between two steps.
 
-pub record Going (s : List ℕ) (h : Header) (i l : ℕ) (d : List ℕ) (A : Automaton) : Type 0 where
+pub record Going (s : List ℕ) (i : ℕ) (b : Body) (A : Automaton) : Type 0 where
   pub fuel : ℕ
   pub description : Description
-  pub well_formed : WellFormed description
-  pub held : Held description h l d A
+  pub held : Held description b A
   pub enough : length s < i + fuel
   pub within : i ≤ length s
   pub left : body fuel s (next i description) ≡ read_hanoi s
@@ -53,22 +50,22 @@ unfolding described_past
 past_next zero s i E D C = refl
 past_next (suc n) s i E D C = refl
 
-pub going_starts : (s : List ℕ) (h : Header) (j : ℕ) → Headed s h j
-    → Going s h j max_states (replicate 4 0) (whole_of (head_of h (replicate 4 0)) (replicate 2048 0))
+pub going_starts : (s : List ℕ) (h : Header) → Headed s h → (A : Automaton) → A ≡ bare h.states (2 ^ h.propositions) h.start
+    → Going s h.body (begun h.propositions) A
 unfolding read_hanoi described_before
-going_starts s h j H =
+going_starts s h H A e =
+    let D = headed_by h in
     record {
       fuel = length s;
-      description = headed_by h;
-      well_formed = header_next_well_formed s j (headed_by h) (sym H.step);
-      held = held_starts h;
-      enough = omega (arith, H.behind);
-      within = H.within;
+      description = D;
+      held = subst (Held D (begun h.propositions)) (sym e) (held_starts D (header_next_well_formed s h.body D (sym H.step)) refl);
+      enough = omega (arith, H.begins.1.0);
+      within = H.begins.1.1;
       left = ap (body (length s) s) H.step;
-      past = past_next (length s) s j (headed_by h) (headed_by h) (headed 0 0 0) ∙ ap (λ (x : Step). described_past (length s) s x (headed 0 0 0)) H.step;
+      past = past_next (length s) s h.body D D (headed 0 0 0) ∙ ap (λ (x : Step). described_past (length s) s x (headed 0 0 0)) H.step;
     }
 
-module _ (s : List ℕ) (h : Header) (i l : ℕ) (d : List ℕ) (A : Automaton) (g : Going s h i l d A) where
+module _ (s : List ℕ) (i : ℕ) (b : Body) (A : Automaton) (g : Going s i b A) where
   -- one part less of the fuel
   record Stepped : Type 0 where
     rest : ℕ
@@ -85,124 +82,79 @@ module _ (s : List ℕ) (h : Header) (i l : ℕ) (d : List ℕ) (A : Automaton) 
       by zero e a b = absurd (omega (arith, e, g.within))
       by (suc n) e a b = record { rest = n; room = omega (arith, e); left = sym (body_on n s i g.description) ∙ a; past = b }
 
-  pub going_on : (m j : ℕ) (e : List ℕ) (B : Automaton) → Advanced s i h m (part_at s i g.description) j e B → Going s h j m e B
-  going_on m j e B a =
-      let t = stepped in
-      record {
-        fuel = t.rest;
-        description = a.description;
-        well_formed = part_next_well_formed s i j g.description a.description g.well_formed a.step;
-        held = a.held;
-        enough = omega (arith, t.room, a.forward);
-        within = a.within;
-        left = ap (body t.rest s) (sym a.step) ∙ t.left;
-        past =
-            past_next t.rest s j a.description a.description g.description
-            ∙ ap (λ (x : Step). described_past t.rest s x g.description) (sym a.step) ∙ t.past;
-      }
-
-  over_reads : (r : Read) → part_at s i g.description ≡ over r → (r ≡ read_hanoi s) × (g.description ≡ described_before s)
+  over_reads : (r : Read) → part_at s i g.description ≡ over r → (read_hanoi s ≡ r) × (g.description ≡ described_before s)
   over_reads r e =
       let t = stepped in (
-        sym (body_over t.rest s r) ∙ ap (body t.rest s) (sym e) ∙ t.left,
+        sym (ap (body t.rest s) (sym e) ∙ t.left) ∙ body_over t.rest s r,
         sym (past_over t.rest s r g.description) ∙ ap (λ (x : Step). described_past t.rest s x g.description) (sym e) ∙ t.past,
       )
 
-  pub going_stops : (n : ℕ) (e : List ℕ) (B : Automaton) (p : Progress) → Taken s i h g.description (part_at s i g.description) d e B p → p ≡ Refused n
-      → ReadTo s (read_hanoi s) n B
-  unfolding Taken ReadTo
-  going_stops n e B p t f =
-      let u : (part_at s i g.description ≡ over (refused n)) × (B ≡ automaton_of g.description) × (e ≡ d) =
-      subst (Taken s i h g.description (part_at s i g.description) d e B) f t in
-      let v = over_reads (refused n) u.0 in
-      subst (λ (r : Read). ReadTo s r n B) v.0 (refl, u.1 ∙ ap automaton_of v.1)
+  -- the step came to r, with c and B left
+  module _ (c : Body) (B : Automaton) (r : Result (Option ℕ) TextRefusal) (t : Taken s i g.description (part_at s i g.description) b c B r) where
+    pub going_past : (j : ℕ) → r ≡ Ok (Some j) → Going s j c B × (i < j) × (j ≤ length s)
+    going_past j f =
+        let a : Advanced s i (part_at s i g.description) j c B = subst (Taken s i g.description (part_at s i g.description) b c B) f t in
+        let u = stepped in (
+          record {
+            fuel = u.rest;
+            description = a.description;
+            held = a.held;
+            enough = omega (arith, u.room, a.past.0);
+            within = a.past.1;
+            left = ap (body u.rest s) (sym a.step) ∙ u.left;
+            past =
+                past_next u.rest s j a.description a.description g.description
+                ∙ ap (λ (x : Step). described_past u.rest s x g.description) (sym a.step) ∙ u.past;
+          },
+          omega (arith, a.past.0),
+          a.past.1,
+        )
 
-  pub going_ends : (e : List ℕ) (B : Automaton) (p : Progress) → Taken s i h g.description (part_at s i g.description) d e B p → p ≡ Whole
-      → ReadTo s (read_hanoi s) 0 B
-  unfolding Taken ReadTo
-  going_ends e B p t f =
-      let u : (part_at s i g.description ≡ over (describes g.description)) × (B ≡ automaton_of g.description) × (e ≡ d) =
-      subst (Taken s i h g.description (part_at s i g.description) d e B) f t in
-      subst (λ (r : Read). ReadTo s r 0 B) (over_reads (describes g.description) u.0).0 (refl, u.1)
+    pub going_ends : r ≡ Ok None → Described s B
+    going_ends f =
+        let u : (part_at s i g.description ≡ over (describes g.description)) × (B ≡ automaton_of g.description) × (c ≡ b) =
+        subst (Taken s i g.description (part_at s i g.description) b c B) f t in
+        record { description = g.description; read = (over_reads (describes g.description) u.0).0; automaton = u.1 }
 
-  pub going_past : (m j : ℕ) (e : List ℕ) (B : Automaton) (p : Progress) → Taken s i h g.description (part_at s i g.description) d e B p
-      → p ≡ Goes m j → Going s h j m e B × (i < j) × (j ≤ length s)
-  unfolding Taken
-  going_past m j e B p t f =
-      let a : Advanced s i h m (part_at s i g.description) j e B = subst (Taken s i h g.description (part_at s i g.description) d e B) f t in
-      (going_on m j e B a, a.forward, a.within)
+    pub going_stops : (f : TextRefusal) → r ≡ Err f → ReadTo s (Err f) B
+    going_stops f e =
+        let u : (part_at s i g.description ≡ over (refused (text_number f))) × (B ≡ automaton_of g.description) × (c ≡ b) =
+        subst (Taken s i g.description (part_at s i g.description) b c B) e t in
+        let v = over_reads (refused (text_number f)) u.0 in
+        (v.0, u.1 ∙ ap automaton_of v.1)
 
--- The answer of a reading that is over.
+-- A text without a header.
 
-pub ended_read : (s : List ℕ) (x : Read) (n m : ℕ) (h : Header) (u t : List ℕ) (a : Head) → ReadTo s x n (whole_of (head_of h u) t) → m ≡ n → a ≡ head_of h u
-    → ReadTo s x m (whole_of a t)
-ended_read s x n m h u t a r e f =
-    subst (λ (k : ℕ). ReadTo s x k (whole_of a t)) (sym e) (subst (λ (b : Head). ReadTo s x n (whole_of b t)) (sym f) r)
+pub unheaded : (s : List ℕ) (f : TextRefusal) (A : Automaton) → over (refused (text_number f)) ≡ header s → A ≡ bare 0 1 0 → ReadTo s (Err f) A
+unfolding read_hanoi described_before automaton_of with_parts
+unheaded s f A e z = (
+  ap (body (length s) s) (sym e) ∙ body_over (length s) s (refused (text_number f)),
+  z ∙ ap automaton_of (sym (past_over (length s) s (refused (text_number f)) (headed 0 0 0))
+      ∙ ap (λ (x : Step). described_past (length s) s x (headed 0 0 0)) e),
+)
 
--- without a header
-pub unheaded : (s : List ℕ) (x : Start) (n : ℕ) (t : List ℕ) → start_step x ≡ header s → x ≡ NoHeader n → t ≡ replicate 2048 0
-    → ReadTo s (read_hanoi s) n (whole_of (head_of (record { states = 0; start = 0; propositions = 0 }) (replicate 4 0)) t)
-unfolding read_hanoi described_before ReadTo automaton_of with_parts bare
-unheaded s x n t e f z =
-    let g : header s ≡ over (refused n) = sym e ∙ ap start_step f in
-    let r : refused n ≡ body (length s) s (header s) = sym (body_over (length s) s (refused n)) ∙ ap (body (length s) s) (sym g) in
-    let d : headed 0 0 0 ≡ described_past (length s) s (header s) (headed 0 0 0) =
-    sym (past_over (length s) s (refused n) (headed 0 0 0)) ∙ ap (λ (x : Step). described_past (length s) s x (headed 0 0 0)) (sym g) in
-    let A : List ℕ → Automaton = λ u. whole_of (head_of (record { states = 0; start = 0; propositions = 0 }) (replicate 4 0)) u in
-    subst (λ (y : Read). ReadTo s y n (A t)) r (refl, ap A z ∙ ap automaton_of d)
+-- The automaton of a text that is read is in range.
 
-pub headed_at : (s : List ℕ) (x : Start) (h : Header) (j : ℕ) → start_step x ≡ header s → PastHeader s x → x ≡ Begins h j → Headed s h j
-unfolding PastHeader
-headed_at s x h j e p f =
-    let q = subst (PastHeader s) f p in
-    record { step = sym (ap start_step f) ∙ e; in_ranges = q.0; behind = q.1; within = q.2 }
+pub read_in_range : (s : List ℕ) (r : Result (Unit {0}) TextRefusal) (A : Automaton) → ReadTo s r A → OnOk r (InRange A)
+read_in_range s (Ok _) A d = subst InRange (sym d.automaton) (hanoi_describes s d.description ((hanoi_grammar s d.description).0 d.read)).in_range
+read_in_range s (Err f) A d = tt
 
--- What the answer of `read` says of the text.
+-- The call: a refusal of the text changes nothing; else its automaton is written.
 
-module _ (s : List ℕ) (m : ℕ) (A : Automaton) (h : ReadTo s (read_hanoi s) m A) where
-  by_read : (r : Read) → read_hanoi s ≡ r → ReadTo s r m A
-  by_read r e = subst (λ (x : Read). ReadTo s x m A) e h
+pub record Gives (s old : List ℕ) (x : WriteAnswer) (new : List ℕ) : Type 0 where
+  pub answer : x ≡ (hanoi_of s old).answer
+  pub out : new ≡ (hanoi_of s old).out
+  pub demand1 : HanoiDemand1 s old
 
-  pub text_refused : (m ≡ 0 → ⊥) → read_hanoi s ≡ refused m
-  unfolding ReadTo
-  text_refused z = by (read_hanoi s) refl (by_read (read_hanoi s) refl)
-    where
-      by : (r : Read) → read_hanoi s ≡ r → ReadTo s r m A → read_hanoi s ≡ refused m
-      by (refused n) e t = e ∙ ap refused (sym t.0)
-      by (describes D) e t = absurd (z t.0)
+module _ (s old : List ℕ) where
+  pub text_stops : (n : ℕ) → read_hanoi s ≡ refused n → Gives s old (RefusedText n) old
+  text_stops n e =
+      let h = hanoi_refused s old n e in
+      record { answer = sym (ap (λ (w : Write). w.answer) h); out = sym (ap (λ (w : Write). w.out) h); demand1 = hanoi_demand_1 s old }
 
-  pub record DescribedAs : Type 0 where
-    pub description : Description
-    pub read : read_hanoi s ≡ describes description
-    pub automaton : A ≡ automaton_of description
-
-  pub text_described : m ≡ 0 → DescribedAs
-  unfolding ReadTo
-  text_described z = by (read_hanoi s) refl (by_read (read_hanoi s) refl)
-    where
-      never : (n : ℕ) → (n ≡ 3) ⊎ (n ≡ 4) ⊎ (n ≡ 17) ⊎ (n ≡ 18) → n ≡ 0 → ⊥
-      never n c e = ⊎_elim (λ x. omega (arith, x, e)) (λ d. ⊎_elim (λ x. omega (arith, x, e)) (λ f. ⊎_elim (λ x. omega (arith, x, e)) (λ x. omega (arith, x, e)) f) d) c
-
-      by : (r : Read) → read_hanoi s ≡ r → ReadTo s r m A → DescribedAs
-      by (refused n) e t = absurd (never n (hanoi_refusals s n e) (sym t.0 ∙ z))
-      by (describes D) e t = record { description = D; read = e; automaton = t.1 }
-
-  pub text_in_range : m ≡ 0 → InRange A
-  text_in_range z =
-      let d = text_described z in
-      subst InRange (sym d.automaton) (hanoi_describes s d.description ((hanoi_grammar s d.description).0 d.read)).in_range
-
-  -- the call: a refusal of the text changes nothing; else its automaton is written
-  module _ (out : List ℕ) where
-    pub text_stops : (m ≡ 0 → ⊥) → (RefusedText m ≡ (hanoi_of s out).answer) × ((out ≡ (hanoi_of s out).out) × HanoiDemand1 s out)
-    text_stops z =
-        let e = hanoi_refused s out m (text_refused z) in
-        (sym (ap (λ (w : Write). w.answer) e), (sym (ap (λ (w : Write). w.out) e), hanoi_demand_1 s out))
-
-    pub text_writes : m ≡ 0 → (x : WriteAnswer) (new : List ℕ) → x ≡ (writing A out).answer → new ≡ (writing A out).out
-        → (x ≡ (hanoi_of s out).answer) × ((new ≡ (hanoi_of s out).out) × HanoiDemand1 s out)
-    text_writes z x new a b =
-        let d = text_described z in
-        let e : writing A out ≡ hanoi_of s out =
-        ap (λ (B : Automaton). writing B out) d.automaton ∙ sym (hanoi_read s out d.description d.read) in
-        (a ∙ ap (λ (w : Write). w.answer) e, (b ∙ ap (λ (w : Write). w.out) e, hanoi_demand_1 s out))
+  pub text_writes : (A : Automaton) → Described s A → (x : WriteAnswer) (new : List ℕ) → x ≡ (writing A old).answer → new ≡ (writing A old).out
+      → Gives s old x new
+  text_writes A d x new a b =
+      let e : writing A old ≡ hanoi_of s old =
+      ap (λ (B : Automaton). writing B old) d.automaton ∙ sym (hanoi_read s old d.description d.read) in
+      record { answer = a ∙ ap (λ (w : Write). w.answer) e; out = b ∙ ap (λ (w : Write). w.out) e; demand1 = hanoi_demand_1 s old }

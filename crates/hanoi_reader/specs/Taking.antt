@@ -1,78 +1,74 @@
--- How the code holds a reading: the header apart from the automaton's two sets of bytes, the states that are declared as a set of bytes, the state declared last
--- as a number, and no description at all. `Reading` of the crate `hanoi` says what a step is, and `Meaning` what automaton a description has. Only contracts
--- of the reader name these.
---   head_of h s          the head with the header h and the accepting states s
---   Headed s h j        the header of s is h, and the body begins at place j
---   with_letter t q m r a  the bytes t with the transition from q on letter a to r, if bit a is set in m
---   with_mask t q m r n a  the same for the n letters from a on
---   latest_state xs     the state that was declared last; 32 where there is none
---   Held D h l d A      the code holds the description D: by the header h, the latest state l, the declared states d and the automaton A
---   Advanced s i h l x j d A   the step x goes on at place j, behind place i, with a description that the code holds
---   Holds h l d A       the code holds some well-formed description
---   Taken s i h D x e d A p    the step x, which began at place i with the description D and the declared states e, came to p and left d and A: a refusal
---                       and the end change nothing
+-- How the code holds a reading: the automaton so far, the states that are declared as a set of bytes, the state declared last, and no description at all.
+-- `Reading` of the crate `hanoi` says what a step is, and `Meaning` what automaton a description has. Only contracts of the reader name these.
+--   Headed s h          the header of s is h, and the body begins where it says
+--   with_mask A q m r n a  A with the transitions from q to r on those of the n letters from a on whose bit is set in m
+--   latest_state xs     the state that was declared last, if there is one
+--   begun k             a body of k propositions, of which nothing is read
+--   Held D b A          the code holds the well-formed description D, by b and the automaton A
+--   Holds b A           the code holds some description
+--   Advanced s i x j b A   the step x goes on at place j, behind place i, with a description that the code holds
+--   goes r              a refusal, or the place where the reading goes on, as `take_part` answers
+--   Taken s i D x b c A r  the step x, which began at place i with the description D and b, came to r and left c and A: a refusal and the end change nothing
 --   described_before s  what the text describes before its end or its first fault
---   ReadTo s r m A      reading s comes to r: by the refusal's number m, or 0, and the automaton A of what was read
+--   Described s A       the text s is read, and A is its automaton
+--   ReadTo s r A        reading s came to r, and left the automaton A of what was read
 -- Shown by `going_starts`, `going_past`, `going_ends` and `going_stops`: how a reading goes on after a step. Assumes nothing.
-use Rattle.std.specs.Prelude.{◌≡◌, true, false, List, [], ◌∷◌, ℕ, zero, suc, ◌^◌, ◌≤◌, ◌<◌, length}
+use Rattle.std.specs.Prelude.{◌≡◌, true, false, List, [], ◌∷◌, ℕ, zero, suc, ◌<◌, ◌+◌, length, replicate, Option, Some, None, Result, Ok, Err}
 use Rattle.automaton.specs.declared.Automaton.{Automaton}
-use Rattle.automaton.specs.declared.Head.{Head}
 use Rattle.automaton.specs.Sets.{bit, member}
-use Rattle.automaton.specs.Automata.{max_states}
-use Rattle.automaton.specs.Members.{with_bit_for}
+use Rattle.automaton.specs.Automata.{max_states, with_transition}
+use Rattle.tokens.specs.Places.{Past}
+use Rattle.hanoi.specs.declared.TextRefusal.{TextRefusal}
+use Rattle.hanoi.specs.Numbers.{text_number}
 use Rattle.hanoi.specs.Descriptions.{Part, declared, edge, Description, headed}
-use Rattle.hanoi.specs.Reading.{Read, refused, describes, Step, over, next, header, is_declared, part_at}
+use Rattle.hanoi.specs.Reading.{refused, describes, Step, over, next, header, is_declared, part_at, read_hanoi}
 use Rattle.hanoi.specs.Meaning.{automaton_of, WellFormed}
 use Rattle.hanoi_header.specs.declared.Header.{Header}
-use Rattle.hanoi_header.specs.declared.Start.TheVariants.{Begins}
-use Rattle.hanoi_header.specs.Headers.{InRanges, start_step}
-use Rattle.hanoi_reader.specs.declared.Progress.{Progress}
-use Rattle.hanoi_reader.specs.declared.Progress.TheVariants.{Refused, Whole, Goes}
+use Rattle.hanoi_header.specs.Headers.{headed_by, BeginsBody}
+use Rattle.hanoi_reader.specs.declared.parts.Body.{Body}
 
-abbrev pub head_of : Header → List ℕ → Head
-head_of h s = record { states = h.states; letters = 2 ^ h.propositions; initial = h.start; accepting = s }
+pub record Headed (s : List ℕ) (h : Header) : Type 0 where
+  pub step : next h.body (headed_by h) ≡ header s
+  pub begins : BeginsBody s h
 
-pub record Headed (s : List ℕ) (h : Header) (j : ℕ) : Type 0 where
-  pub step : start_step (Begins h j) ≡ header s
-  pub in_ranges : InRanges h
-  pub behind : 1 ≤ j
-  pub within : j ≤ length s
+unfoldable pub with_mask : Automaton → ℕ → ℕ → ℕ → ℕ → ℕ → Automaton
+with_mask A q m r zero a = A
+with_mask A q m r (suc n) a = with_mask (elim (bit m a) [ true ↦ with_transition A q a r | false ↦ A ]) q m r n (suc a)
 
-abbrev pub with_letter : List ℕ → ℕ → ℕ → ℕ → ℕ → List ℕ
-with_letter t q m r a = elim (bit m a) [ true ↦ with_bit_for t q a r | false ↦ t ]
+abbrev pub latest_state : List Part → Option ℕ
+latest_state [] = None
+latest_state (declared q b ∷ xs) = Some q
+latest_state (edge q L r ∷ xs) = Some q
 
-unfoldable pub with_mask : List ℕ → ℕ → ℕ → ℕ → ℕ → ℕ → List ℕ
-with_mask t q m r zero a = t
-with_mask t q m r (suc n) a = with_mask (with_letter t q m r a) q m r n (suc a)
+abbrev pub begun : ℕ → Body
+begun k = record { propositions = k; declared = replicate 4 0; latest = None }
 
-abbrev pub latest_state : List Part → ℕ
-latest_state [] = max_states
-latest_state (declared q b ∷ xs) = q
-latest_state (edge q L r ∷ xs) = q
-
-pub record Held (D : Description) (h : Header) (l : ℕ) (d : List ℕ) (A : Automaton) : Type 0 where
-  pub states : D.states ≡ h.states
-  pub propositions : D.propositions ≡ h.propositions
+pub record Held (D : Description) (b : Body) (A : Automaton) : Type 0 where
+  pub well_formed : WellFormed D
+  pub propositions : D.propositions ≡ b.propositions
   pub automaton : A ≡ automaton_of D
-  pub size : length d ≡ 4
-  pub declares : (q : ℕ) → q < max_states → member d q ≡ is_declared q D.parts
-  pub latest : latest_state D.parts ≡ l
+  pub size : length b.declared ≡ 4
+  pub declares : (q : ℕ) → q < max_states → member b.declared q ≡ is_declared q D.parts
+  pub latest : latest_state D.parts ≡ b.latest
 
--- some description is held; from the beginning of the body on there is one
-abbrev pub Holds : Header → ℕ → List ℕ → Automaton → Type 0
-Holds h l d A = (D : Description) × WellFormed D × Held D h l d A
+-- from the beginning of the body on there is one
+abbrev pub Holds : Body → Automaton → Type 0
+Holds b A = (D : Description) × Held D b A
 
-pub record Advanced (s : List ℕ) (i : ℕ) (h : Header) (l : ℕ) (x : Step) (j : ℕ) (d : List ℕ) (A : Automaton) : Type 0 where
+pub record Advanced (s : List ℕ) (i : ℕ) (x : Step) (j : ℕ) (b : Body) (A : Automaton) : Type 0 where
   pub description : Description
   pub step : x ≡ next j description
-  pub held : Held description h l d A
-  pub forward : i < j
-  pub within : j ≤ length s
+  pub held : Held description b A
+  pub past : Past s (i + 1) j
 
-unfoldable pub Taken : List ℕ → ℕ → Header → Description → Step → List ℕ → List ℕ → Automaton → Progress → Type 0
-Taken s i h D x e d A (Refused n) = (x ≡ over (refused n)) × (A ≡ automaton_of D) × (d ≡ e)
-Taken s i h D x e d A Whole = (x ≡ over (describes D)) × (A ≡ automaton_of D) × (d ≡ e)
-Taken s i h D x e d A (Goes l j) = Advanced s i h l x j d A
+abbrev pub goes : Result ℕ TextRefusal → Result (Option ℕ) TextRefusal
+goes (Err f) = Err f
+goes (Ok j) = Ok (Some j)
+
+abbrev pub Taken : List ℕ → ℕ → Description → Step → Body → Body → Automaton → Result (Option ℕ) TextRefusal → Type 0
+Taken s i D x b c A (Err f) = (x ≡ over (refused (text_number f))) × (A ≡ automaton_of D) × (c ≡ b)
+Taken s i D x b c A (Ok None) = (x ≡ over (describes D)) × (A ≡ automaton_of D) × (c ≡ b)
+Taken s i D x b c A (Ok (Some j)) = Advanced s i x j c A
 
 -- the description after the step x and the parts past it, at most n of them, with D before the step
 unfoldable pub described_past : ℕ → List ℕ → Step → Description → Description
@@ -84,6 +80,11 @@ described_past (suc n) s (next i E) D = described_past n s (part_at s i E) E
 unfoldable pub described_before : List ℕ → Description
 described_before s = described_past (length s) s (header s) (headed 0 0 0)
 
-unfoldable pub ReadTo : List ℕ → Read → ℕ → Automaton → Type 0
-ReadTo s (refused n) m A = (m ≡ n) × (A ≡ automaton_of (described_before s))
-ReadTo s (describes D) m A = (m ≡ 0) × (A ≡ automaton_of D)
+pub record Described (s : List ℕ) (A : Automaton) : Type 0 where
+  pub description : Description
+  pub read : read_hanoi s ≡ describes description
+  pub automaton : A ≡ automaton_of description
+
+abbrev pub ReadTo : List ℕ → Result (Unit {0}) TextRefusal → Automaton → Type 0
+ReadTo s (Err f) A = (read_hanoi s ≡ refused (text_number f)) × (A ≡ automaton_of (described_before s))
+ReadTo s (Ok _) A = Described s A

@@ -1,182 +1,147 @@
 // The body of a Hanoi text: what stands at a place of it, and what it does to the automaton so far.
-ghost use Rattle.std.specs.Prelude.{◌≡◌, Bool, List, ℕ, ◌≤◌, ◌<◌, eqb, length};
-ghost use Rattle.automaton.specs.Automata.{whole_of};
+ghost use Rattle.std.specs.Prelude.{◌≡◌, Bool, Some, ℕ, ◌≤◌, ◌<◌, length, IfOk};
+ghost use Rattle.tokens.specs.Places.{Past};
 ghost use Rattle.hanoi.specs.Descriptions.{Description};
-ghost use Rattle.tokens.specs.Tokens.{skip};
-ghost use Rattle.hanoi.specs.Reading.{Step, acceptance, declaration, state_at, edge_at, part_at};
-ghost use Rattle.hanoi.specs.Meaning.{WellFormed};
-ghost use Rattle.hanoi_header.specs.declared.Header.{Header};
-ghost use Rattle.hanoi_header.specs.Headers.{InRanges};
-ghost use Rattle.hanoi_header.specs.Items.{onward_value, PastValue};
-ghost use Rattle.hanoi_reader.specs.Taking.{head_of, with_letter, with_mask, Held, Holds, Taken};
+ghost use Rattle.hanoi.specs.Reading.{Step, acceptance, state_at, edge_at, part_at};
+ghost use Rattle.hanoi_header.specs.Items.{onward};
+ghost use Rattle.hanoi_reader.specs.Taking.{with_mask, begun, Held, Holds, goes, Taken};
 
-use crate::Progress;
-use automaton::{accepts_in, add_member, add_transition};
-use hanoi_header::{Header, Item, number_in};
-use label_reader::{Truth, label_at};
-use tokens::{Went, skip, then_token, token};
+use automaton::{Automaton, add_member, is_member};
+use hanoi::TextRefusal;
+use hanoi_header::{expect, number_in, numbered};
+use label_reader::label_at;
+use tokens::{skip, token};
 
-// Whether white space alone stands from a place on.
-fn ends(text: &[u8], at: usize) -> bool
-    requires { at ≤ length text.now }
-    ensures { result ≡ eqb (skip text.now at) (length text.now) }
-{
-    skip(text, at) == text.len()
+// What stands behind a state's number: whether it accepts, and the place behind.
+#[derive(Clone, Copy)]
+struct Mark {
+    accepting: bool,
+    behind: usize,
 }
 
-// `{0}` behind a state's number, as 1, or nothing, as 0.
-fn mark_at(text: &[u8], at: usize) -> Item
-    requires { at ≤ length text.now }
-    ensures meaning { (go : Bool → ℕ → Step) → acceptance text.now at go ≡ onward_value result (λ v j. go (eqb v 1) j) }
-    ensures within { PastValue text.now at 0 2 result }
-{
-    let Went::Behind(opened) = token(text, at, b"{") else {
-        return Item::Value(0, at);
-    };
-    let set = token(text, opened, b"0");
-    let Went::Behind(next) = then_token(text, set, b"}") else {
-        return Item::Refused(17);
-    };
-    Item::Value(1, next)
+// What is known of a body besides its automaton: the number of propositions, the states that are declared, and the state that the next edge belongs to.
+#[derive(Clone, Copy)]
+pub struct Body {
+    propositions: usize,
+    declared: [u8; 4],
+    latest: Option<usize>,
 }
 
-// Declares state q, whose number ends at a place, unless it is declared. A refusal changes nothing.
-fn declare(
-    text: &[u8],
-    at: usize,
-    q: usize,
-    declared: &mut [u8; 4],
-    accepting: &mut [u8; 4],
-) -> Progress
-    requires { (at ≤ length text.now) × (q < 32) }
-    ensures { (h : Header) (l : ℕ) (t : List ℕ) (D : Description) (i : ℕ) → i < at
-        → Held D h l declared.old (whole_of (head_of h accepting.old) t)
-        → Taken text.now i h D (declaration text.now at q D) declared.old declared.new
-        (whole_of (head_of h accepting.new) t) result }
+// `{0}` behind a state's number, or nothing.
+fn mark_at(text: &[u8], at: usize) -> Result<Mark, TextRefusal>
+    requires { at ≤ length text.now }
+    ensures meaning { (go : Bool → ℕ → Step) → acceptance text.now at go ≡ onward result (λ m. go m.accepting m.behind) }
+    ensures within { IfOk result (λ m. Past text.now at m.behind) }
 {
-    if accepts_in(declared, q) {
-        return Progress::Refused(17);
+    match token(text, at, b"{") {
+        Some(opened) => {
+            let behind = expect(text, opened, &[b"0", b"}"])?;
+            Ok(Mark {
+                accepting: true,
+                behind,
+            })
+        }
+        None => Ok(Mark {
+            accepting: false,
+            behind: at,
+        }),
     }
-    match mark_at(text, at) {
-        Item::Refused(number) => Progress::Refused(number),
-        Item::Value(mark, next) => {
-            add_member(declared, q);
-            if mark == 1 {
-                add_member(accepting, q);
+}
+
+// Adds the transitions from q to r on those letters whose bit is set in the mask.
+fn add_letters(automaton: &mut Automaton, q: usize, mask: u16, r: usize)
+    requires { (automaton.old.letters ≤ 16) × (q < 32) × (r < 32) }
+    ensures { automaton.new ≡ with_mask automaton.old q mask r automaton.old.letters 0 }
+{
+    for a in 0..automaton.letters {
+        if (mask >> a) % 2 == 1 {
+            automaton.add_transition(q, a, r);
+        }
+    }
+}
+
+impl Body {
+    // Nothing is declared yet.
+    pub fn new(propositions: usize) -> Body
+        ensures { result ≡ begun propositions }
+    {
+        Body {
+            propositions,
+            declared: [0; 4],
+            latest: None,
+        }
+    }
+
+    // Takes the state behind `State:`. A refusal changes nothing.
+    fn take_state(
+        &mut self,
+        text: &[u8],
+        at: usize,
+        automaton: &mut Automaton,
+    ) -> Result<usize, TextRefusal>
+        requires { (at ≤ length text.now) × Holds self.old automaton.old }
+        ensures { (D : Description) (i : ℕ) → i < at → Held D self.old automaton.old
+            → Taken text.now i D (state_at text.now at D) self.old self.new automaton.new (goes result) }
+    {
+        let state = number_in(text, at, 0..automaton.states, TextRefusal::OutsideHeader)?;
+        if is_member(&self.declared, state.value) {
+            return Err(TextRefusal::OutsideSubset);
+        }
+        let mark = mark_at(text, state.behind)?;
+        add_member(&mut self.declared, state.value);
+        self.latest = Some(state.value);
+        if mark.accepting {
+            automaton.add_accepting(state.value);
+        }
+        Ok(mark.behind)
+    }
+
+    // Takes the edge of state q behind its `[`. A refusal changes nothing.
+    fn take_edge(
+        &self,
+        text: &[u8],
+        at: usize,
+        q: usize,
+        automaton: &mut Automaton,
+    ) -> Result<usize, TextRefusal>
+        requires { (at ≤ length text.now) × (self.now.latest ≡ Some q) × Holds self.now automaton.old }
+        ensures { (D : Description) (i : ℕ) → i < at → Held D self.now automaton.old
+            → Taken text.now i D (edge_at text.now at q D) self.now self.now automaton.new (goes result) }
+    {
+        let label = label_at(text, at, self.propositions).ok_or(TextRefusal::OutsideSubset)?;
+        let target = numbered(
+            text,
+            label.behind,
+            &[b"]"],
+            0..automaton.states,
+            TextRefusal::OutsideHeader,
+        )?;
+        add_letters(automaton, q, label.mask, target.value);
+        Ok(target.behind)
+    }
+
+    // Takes what stands at a place: a state, or an edge of the latest state; behind the end there is none. A refusal and the end change nothing.
+    pub fn take_part(
+        &mut self,
+        text: &[u8],
+        at: usize,
+        automaton: &mut Automaton,
+    ) -> Result<Option<usize>, TextRefusal>
+        requires { (at ≤ length text.now) × Holds self.old automaton.old }
+        ensures { (D : Description) → Held D self.old automaton.old
+            → Taken text.now at D (part_at text.now at D) self.old self.new automaton.new result }
+    {
+        if let Some(next) = token(text, at, b"--END--") {
+            if skip(text, next) != text.len() {
+                return Err(TextRefusal::OutsideSubset);
             }
-            Progress::Goes(q, next)
+            return Ok(None);
         }
-    }
-}
-
-// Takes the state behind `State:`. A refusal changes nothing.
-fn take_state(
-    text: &[u8],
-    at: usize,
-    header: Header,
-    declared: &mut [u8; 4],
-    accepting: &mut [u8; 4],
-) -> Progress
-    requires { (at ≤ length text.now) × InRanges header }
-    ensures { (l : ℕ) (t : List ℕ) (D : Description) (i : ℕ) → i < at
-        → Held D header l declared.old (whole_of (head_of header accepting.old) t)
-        → Taken text.now i header D (state_at text.now at D) declared.old declared.new
-        (whole_of (head_of header accepting.new) t) result }
-{
-    match number_in(text, Went::Behind(at), 0, header.states, 4) {
-        Item::Refused(number) => Progress::Refused(number),
-        Item::Value(q, next) => declare(text, next, q, declared, accepting),
-    }
-}
-
-// Adds the transition from q on letter a to r, if the letter's bit is set in the mask.
-fn add_letter(transitions: &mut [u8; 2048], q: usize, mask: usize, r: usize, a: usize)
-    requires { (q < 32) × (r < 32) × (a < 16) }
-    ensures { transitions.new ≡ with_letter transitions.old q mask r a }
-{
-    if (mask >> a) % 2 == 1 {
-        add_transition(transitions, q, a, r);
-    }
-}
-
-// Adds the transitions from q to r on those of the letters whose bit is set in the mask.
-fn add_letters(transitions: &mut [u8; 2048], q: usize, mask: usize, r: usize, letters: usize)
-    requires { (q < 32) × (r < 32) × (letters ≤ 16) }
-    ensures { transitions.new ≡ with_mask transitions.old q mask r letters 0 }
-{
-    let mut a: usize = 0;
-    while a < letters {
-        add_letter(transitions, q, mask, r, a);
-        a += 1;
-    }
-}
-
-// Takes the edge of state q behind its `[`. A refusal changes nothing.
-fn take_edge(
-    text: &[u8],
-    at: usize,
-    header: Header,
-    q: usize,
-    transitions: &mut [u8; 2048],
-) -> Progress
-    requires { (at ≤ length text.now) × InRanges header × (q < 32) }
-    ensures { (d s : List ℕ) (D : Description) (i : ℕ) → i < at
-        → Held D header q d (whole_of (head_of header s) transitions.old)
-        → Taken text.now i header D (edge_at text.now at q D) d d
-        (whole_of (head_of header s) transitions.new) result }
-{
-    let Truth::On(mask, behind) = label_at(text, at, header.propositions) else {
-        return Progress::Refused(17);
-    };
-    let closed = token(text, behind, b"]");
-    match number_in(text, closed, 0, header.states, 4) {
-        Item::Refused(number) => Progress::Refused(number),
-        Item::Value(r, next) => {
-            add_letters(
-                transitions,
-                q,
-                mask,
-                r,
-                crate::letters_of(header.propositions),
-            );
-            Progress::Goes(q, next)
+        if let Some(next) = token(text, at, b"State:") {
+            return self.take_state(text, next, automaton).map(Some);
         }
+        let next = token(text, at, b"[").ok_or(TextRefusal::OutsideSubset)?;
+        let q = self.latest.ok_or(TextRefusal::OutsideSubset)?;
+        self.take_edge(text, next, q, automaton).map(Some)
     }
-}
-
-// Takes what stands at a place: the end, a state, or an edge of the latest state, which is 32 where there is none. A refusal and the end change nothing.
-pub fn take_part(
-    text: &[u8],
-    at: usize,
-    header: Header,
-    latest: usize,
-    declared: &mut [u8; 4],
-    accepting: &mut [u8; 4],
-    transitions: &mut [u8; 2048],
-) -> Progress
-    requires { (at ≤ length text.now)
-        × InRanges header
-        × Holds header latest declared.old (whole_of (head_of header accepting.old) transitions.old) }
-    ensures { (D : Description) → WellFormed D
-        → Held D header latest declared.old (whole_of (head_of header accepting.old) transitions.old)
-        → Taken text.now at header D (part_at text.now at D) declared.old declared.new
-        (whole_of (head_of header accepting.new) transitions.new) result }
-{
-    if let Went::Behind(next) = token(text, at, b"--END--") {
-        return if ends(text, next) {
-            Progress::Whole
-        } else {
-            Progress::Refused(17)
-        };
-    }
-    if let Went::Behind(next) = token(text, at, b"State:") {
-        return take_state(text, next, header, declared, accepting);
-    }
-    let Went::Behind(next) = token(text, at, b"[") else {
-        return Progress::Refused(17);
-    };
-    if latest >= 32 {
-        return Progress::Refused(17);
-    }
-    take_edge(text, next, header, latest, transitions)
 }

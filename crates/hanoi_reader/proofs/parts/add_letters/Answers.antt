@@ -1,15 +1,15 @@
 -- `add_letters` meets its contract: with the letters from the present one on added, it is what all letters come to. Assumes nothing.
-use mathlib.Core.Path.{sym, ◌∙◌}
-use native.Mathlib.Omega.{arith}
-use Rattle.hanoi_reader.proofs.LetterLaws.{next_letter, no_letter_lem}
+use Rattle.std.proofs.Common.{sym, ◌∙◌}
+use Rattle.hanoi_reader.proofs.LetterLaws.{letter_taken, letter_passed, no_letter}
 use Rattle.hanoi_reader.proofs.parts.add_letters.Goals as goal
+use Rattle.hanoi_reader.proofs.parts.add_letters.Goals.{then-mask-a-eq1, else-mask-a-eq1}
 
 pub loop-a-preserved : goal.loop-a-preserved
-loop-a-preserved c = let a = c.args in
-    let l = c.loop-a in
-    (l.invariant.0 ∙ next_letter l.transitions a.q a.mask a.r a.letters l.a (omega arith) _ c.add_letter.ensures, omega arith)
+loop-a-preserved c =
+    elim c.if-mask-a-eq1.branch [
+      | then-mask-a-eq1 w ↦ rw (w.automaton-is, w.add_transition.ensures) (c.loop-a.invariant ∙ letter_taken _ _ _ _ _ _ c.loop-a-test.true w.if-mask-a-eq1.true)
+      | else-mask-a-eq1 w ↦ rw w.automaton-is (c.loop-a.invariant ∙ letter_passed _ _ _ _ _ _ c.loop-a-test.true w.if-mask-a-eq1.false)
+    ]
 
 pub returns : goal.returns
-returns c = let a = c.args in
-    let l = c.loop-a in
-    sym (l.invariant.0 ∙ no_letter_lem l.transitions a.q a.mask a.r a.letters l.a (omega (arith, c.loop-a-test.false)))
+returns c = sym (c.loop-a.invariant ∙ no_letter _ _ _ _ _ _ c.loop-a-test.false)
