@@ -2,12 +2,13 @@
 #![tactic(auto)]
 
 ghost use Rattle.std.specs.Prelude.{◌≡◌, ◌&&◌, leb};
-ghost use Rattle.automaton.specs.Automata.{max_states, whole_of, InRange};
-ghost use Rattle.history.specs.Entries.{max_edition, entry_with, malformed, smaller};
-ghost use Rattle.history.specs.Verdicts.{outside, bad_lasso};
+ghost use Rattle.automaton.specs.Automata.{max_states};
+ghost use Rattle.history.specs.Entries.{max_edition, malformed, smaller};
+ghost use Rattle.std.specs.List.{list_any};
+ghost use Rattle.history.specs.Verdicts.{bad_lasso};
 
-use automaton::{Head, MAX_STATES};
-use history::EntryHead;
+use automaton::{MAX_STATES, Valid};
+use history::Entry;
 
 // The last edition number that an entry can have.
 pub const MAX_EDITION: usize = 183071;
@@ -22,64 +23,48 @@ fn in_bounds(states: usize, first: usize, edition: usize) -> bool
     (1 <= first) & (first <= MAX_STATES) & (states <= first) & (edition <= MAX_EDITION)
 }
 
-// Whether the entry is malformed, whose held transitions are lent; of an empty one no other field is examined.
-pub fn malformed(entry: EntryHead, held: &[u8; 2048]) -> bool
-    ensures { result ≡ malformed (entry_with entry held.now) }
+// Whether the entry is malformed; of an empty one no other field is examined.
+pub fn malformed(entry: &Entry) -> bool
+    ensures { result ≡ malformed entry.now }
 {
     if !entry.filled {
         return false;
     }
-    if !range_test::in_range(entry.held, held) {
+    if !range_test::in_range(&entry.held) {
         return true;
     }
-    let dead = deadend::has_dead(entry.held, held);
+    let dead = deadend::has_dead(Valid {
+        automaton: &entry.held,
+    });
     let outside = !in_bounds(entry.held.states, entry.first, entry.edition);
     dead | outside
 }
 
 // Whether the offer has fewer states than the held automaton, or as many and fewer transitions.
-pub fn smaller(offer: Head, offers: &[u8; 2048], held: Head, helds: &[u8; 2048]) -> bool
-    requires { InRange (whole_of offer offers.now) × InRange (whole_of held helds.now) }
-    ensures { result ≡ smaller (whole_of offer offers.now) (whole_of held helds.now) }
+#[tactic(auto, unfolding(history::specs::Entries::smaller))]
+pub fn smaller(offer: Valid, held: Valid) -> bool
+    ensures { result ≡ smaller offer.entry.automaton.now held.entry.automaton.now }
 {
-    if offer.states < held.states {
-        return true;
-    }
-    if offer.states != held.states {
-        return false;
-    }
-    range_test::transition_count(offer, offers) < range_test::transition_count(held, helds)
+    let (offer, held) = (offer.automaton, held.automaton);
+    offer.states < held.states
+        || (offer.states == held.states
+            && range_test::transition_count(offer) < range_test::transition_count(held))
 }
 
 // Whether some letter of the word is not one of the first `letters`.
 fn outside(letters: usize, word: &[u8]) -> bool
-    ensures { result ≡ outside letters word.now }
+    ensures { result ≡ list_any (λ a. leb letters a) word.now }
 {
-    let mut i: usize = 0;
-    while i < word.len() {
-        if letters <= word[i] as usize {
-            return true;
-        }
-        i += 1;
-    }
-    false
+    word.iter().any(|letter| letters <= *letter as usize)
 }
 
 // Whether the stem is too long, the loop `cycle` empty or too long, or a letter not one of the first `letters`.
+#[tactic(auto, using(crate::proofs::Letters::outside_any), unfolding(history::specs::Verdicts::bad_lasso))]
 pub fn bad_lasso(letters: usize, stem: &[u8], cycle: &[u8]) -> bool
     ensures { result ≡ bad_lasso letters stem.now cycle.now }
 {
-    if stem.len() > MAX_LENGTH {
+    if (stem.len() > MAX_LENGTH) | cycle.is_empty() | (cycle.len() > MAX_LENGTH) {
         return true;
     }
-    if cycle.len() == 0 {
-        return true;
-    }
-    if cycle.len() > MAX_LENGTH {
-        return true;
-    }
-    if outside(letters, stem) {
-        return true;
-    }
-    outside(letters, cycle)
+    outside(letters, stem) | outside(letters, cycle)
 }

@@ -1,0 +1,2 @@
+-- Laws of the conditions.
+pub mod Letters
