@@ -8,8 +8,8 @@ use native.Mathlib.Nat.{eq-or-lt_of_le}
 use native.Mathlib.Numerals.{add-one}
 use native.Mathlib.Omega.{arith}
 use denote.Param.Members.{Mut}
-use lib.ListN.{get_or}
-use lib.Seq.{ext_get_or}
+use lib.ListN.{length, get_or, set}
+use lib.Seq.{ext_get_or, get_or-set_same, get_or-set_other}
 use Rattle.std.specs.declared.ops.Range.{Range}
 use Rattle.std.specs.Prelude.{Option}
 use Rattle.std.specs.Array.{IsFromFnResult, IsFromFnResultFrom}
@@ -60,6 +60,16 @@ module _ {F B : Type 0} {g : Mut F (ℕ × Unit {0}) B} {f : F} (P : ℕ → B �
 
   pub array_each : (ys : List B) (d : B) (n : ℕ) → IsFromFnResult g f ys n → (k : ℕ) → k < n → P k (get_or ys k d)
   array_each ys d n r k h = elements_made ys d 0 n r.each k (omega arith) (omega arith)
+
+-- elements written one after another: those below k are as P says, and the next is
+pub each_more : {A : Type 0} (P : ℕ → A → Type 0) (d : A) (xs : List A) (k : ℕ) (x : A) → k < length xs
+    → ((j : ℕ) → j < k → P j (get_or xs j d)) → P k x → (j : ℕ) → j < k + 1 → P j (get_or (set xs k x) j d)
+each_more P d xs k x h below here j l =
+    ⊎_elim (λ e. subst (λ (i : ℕ). P i (get_or (set xs k x) i d)) (sym e) (subst (P k) (sym (get_or-set_same xs k x d h)) here))
+    (λ m. subst (P j) (sym (get_or-set_other xs k j x d (λ e. omega arith))) (below j (omega arith))) (eq-or-lt_of_le k_up)
+  where
+    k_up : j ≤ k
+    k_up = omega arith
 
 -- an array of what h gives
 pub array_made : {F B : Type 0} {g : Mut F (ℕ × Unit {0}) B} {f : F} (h : ℕ → B)

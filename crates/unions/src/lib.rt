@@ -4,7 +4,7 @@
 
 ghost use Rattle.std.specs.Prelude.{◌≡◌, ℕ, ◌+◌, ◌≤◌, length};
 ghost use Rattle.automaton.specs.Sets.{bit};
-ghost use Rattle.unions.specs.Unions.{named, groups_for, doubled, filled};
+ghost use Rattle.unions.specs.Unions.{named, groups_for, doubled, filled, Unions};
 
 use automaton::MAX_STATES;
 
@@ -49,7 +49,8 @@ fn groups_for(n: usize) -> usize
 
 // The entries become the unions of the choices of the values, in the groups of four that n values are held in; the others stay.
 pub fn fill(table: &mut [u64; ENTRIES], values: &[u64; MAX_STATES], n: usize)
-    ensures { table.new ≡ filled table.old values.now (groups_for n) }
+    ensures filled { table.new ≡ filled table.old values.now (groups_for n) }
+    ensures unions { Unions table.new values.now (groups_for n) }
 {
     for g in 0..groups_for(n) {
         fill_four(&mut table[g * 16..], &values[g * 4..]);

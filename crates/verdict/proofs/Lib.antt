@@ -1,4 +1,4 @@
 -- Laws of the verdict's words and tables.
-pub mod Pairs
+pub mod HalfWords
 pub mod WordSets
 pub mod WordVerdict
