@@ -8,7 +8,7 @@ use lib.ListN.{length}
 use Rattle.std.specs.Prelude.{All}
 use Rattle.std.proofs.lemmas.List.Elements.{All-rest}
 use Rattle.automaton.specs.Ranges.{chained}
-use Rattle.automaton.proofs.Lists.{chained_start, chained_past, chained_end}
+use Rattle.automaton.proofs.Lists.{chained_past, chained_end}
 use Rattle.format.specs.Writing.{Item, item_bytes, items_bytes}
 use Rattle.buffers.specs.declared.Cursor.{Cursor}
 use Rattle.buffers.specs.Cursors.{HasRoom, Added}
@@ -54,21 +54,17 @@ module _ {g : ℕ → Item} {n : ℕ} {all : List Item} {c : Cursor} {states : L
 abbrev pub Chaining : (ℕ → List Item) → ℕ → Cursor → ℕ → Cursor → Type 0
 Chaining f m c i d = Left c (items_bytes (chained f m 0)) (items_bytes (chained f (m - i) i)) d
 
-module _ (f : ℕ → List Item) (m : ℕ) where
-  pub chaining_start : (c : Cursor) → HasRoom c (length (items_bytes (chained f m 0))) → Chaining f m c 0 c
-  chaining_start c h = left_start c _ _ (ap items_bytes (chained_start f m)) (omega arith)
+module _ (f : ℕ → List Item) (m : ℕ) {c : Cursor} {i : ℕ} {d : Cursor} (u : Chaining f m c i d) where
+  pub chaining_end : m ≤ i → Added c (items_bytes (chained f m 0)) d
+  unfolding items_bytes
+  chaining_end h = left_end u (ap items_bytes (chained_end f m i h))
 
-  module _ {c : Cursor} {i : ℕ} {d : Cursor} (u : Chaining f m c i d) where
-    pub chaining_end : m ≤ i → Added c (items_bytes (chained f m 0)) d
-    unfolding items_bytes
-    chaining_end h = left_end u (ap items_bytes (chained_end f m i h))
+  module _ (below : i < m) where
+    next_records : items_bytes (chained f (m - i) i) ≡ items_bytes (f i) ++ items_bytes (chained f (m - (i + 1)) (i + 1))
+    next_records = ap items_bytes (chained_past f m i below) ∙ items_append (f i) _
 
-    module _ (below : i < m) where
-      next_records : items_bytes (chained f (m - i) i) ≡ items_bytes (f i) ++ items_bytes (chained f (m - (i + 1)) (i + 1))
-      next_records = ap items_bytes (chained_past f m i below) ∙ items_append (f i) _
+    pub chaining_room : HasRoom c (length (items_bytes (chained f m 0))) → HasRoom d (length (items_bytes (f i)))
+    chaining_room h = left_room u (items_bytes (f i)) _ next_records h
 
-      pub chaining_room : HasRoom c (length (items_bytes (chained f m 0))) → HasRoom d (length (items_bytes (f i)))
-      chaining_room h = left_room u (items_bytes (f i)) _ next_records h
-
-      pub chaining_more : {d' : Cursor} → Added d (items_bytes (f i)) d' → Chaining f m c (i + 1) d'
-      chaining_more w = left_more u (items_bytes (f i)) _ next_records w
+    pub chaining_more : {d' : Cursor} → Added d (items_bytes (f i)) d' → Chaining f m c (i + 1) d'
+    chaining_more w = left_more u (items_bytes (f i)) _ next_records w

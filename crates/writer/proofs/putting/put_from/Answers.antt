@@ -1,10 +1,7 @@
 -- `put_from` meets its contract: the records on each letter, one after another. Assumes nothing.
 use native.Mathlib.Omega.{arith}
-use Rattle.writer.proofs.Records.{chaining_start, chaining_room, chaining_more, chaining_end}
+use Rattle.writer.proofs.Records.{chaining_room, chaining_more, chaining_end}
 use Rattle.writer.proofs.putting.put_from.Goals as goal
-
-pub loop-a-init : goal.loop-a-init
-loop-a-init c = chaining_start _ _ c.args.out.now c.requires.1
 
 pub put_targets-requires : goal.put_targets-requires
 put_targets-requires c = ((omega arith, omega arith), chaining_room _ _ c.loop-a.invariant (omega arith) c.requires.1)

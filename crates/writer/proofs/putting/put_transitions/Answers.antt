@@ -1,12 +1,8 @@
 -- `put_transitions` meets its contract: the records from each state, one after another. Assumes nothing.
 use native.Mathlib.Omega.{arith}
 use Rattle.fixed_form.specs.FixedForm.{transition_items}
-use Rattle.writer.proofs.Records.{chaining_start, chaining_room, chaining_more, chaining_end}
+use Rattle.writer.proofs.Records.{chaining_room, chaining_more, chaining_end}
 use Rattle.writer.proofs.putting.put_transitions.Goals as goal
-
-pub loop-q-init : goal.loop-q-init
-unfolding transition_items
-loop-q-init c = chaining_start _ _ c.args.out.now c.requires
 
 pub put_from-requires : goal.put_from-requires
 unfolding transition_items
