@@ -16,11 +16,16 @@ pub const MAX_EDITION: usize = 183071;
 // The most letters of a stem and of a loop.
 pub const MAX_LENGTH: usize = 4096;
 
-// Whether the numbers beside the held automaton, of so many states, are those of an entry.
-fn in_bounds(states: usize, first: usize, edition: usize) -> bool
-    ensures { result ≡ (leb 1 first && leb first max_states && leb states first && leb edition max_edition) }
+// Whether the numbers beside the held automaton are those of an entry.
+fn in_bounds(entry: &Entry) -> bool
+    ensures { let E = entry.now in
+        result ≡ (leb 1 E.first && leb E.first max_states && leb E.held.states E.first && leb E.edition max_edition) }
 {
-    (1 <= first) & (first <= MAX_STATES) & (states <= first) & (edition <= MAX_EDITION)
+    let first = entry.first;
+    (1 <= first)
+        & (first <= MAX_STATES)
+        & (entry.held.states <= first)
+        & (entry.edition <= MAX_EDITION)
 }
 
 // Whether the entry is malformed; of an empty one no other field is examined.
@@ -36,7 +41,7 @@ pub fn malformed(entry: &Entry) -> bool
     let dead = deadend::has_dead(Valid {
         automaton: &entry.held,
     });
-    let outside = !in_bounds(entry.held.states, entry.first, entry.edition);
+    let outside = !in_bounds(entry);
     dead | outside
 }
 

@@ -12,32 +12,26 @@ use borrow.Author.Tests.{lt-ltb, le-ltb, ltb-true, ltb-false}
 use Rattle.automaton.specs.declared.Automaton.{Automaton}
 use Rattle.automaton.specs.Ranges.{some, table}
 use Rattle.automaton.specs.Sets.{bit, member}
-use Rattle.automaton.specs.Automata.{accepts, transition, transition_bit, InRange}
-use Rattle.automaton.specs.Members.{transition_in}
+use Rattle.automaton.specs.Automata.{accepts, transition_bit, InRange}
 use Rattle.relations.specs.Closure.{related, relation, closure, reaches, row_has}
 use Rattle.deadstates.specs.DeadEnds.{edge, paths, live, dead, dead_states, has_dead}
-use Rattle.automaton.proofs.Booleans.{or_cases, T_true, not_T_false}
+use Rattle.automaton.proofs.Booleans.{or_cases, not_T_false}
 use Rattle.automaton.proofs.Ranges.{table_at}
-use Rattle.automaton.proofs.InRange.{in_header, in_header_iff}
+use Rattle.automaton.proofs.Members.{transition_bit_lem}
 use Rattle.relations.proofs.Closure.{closure_below}
 use Rattle.relations.proofs.Rows.{table_same, some_same, some_cut}
 
 module _ (A : Automaton) (c : InRange A) where
   -- Edges and paths.
 
-  transition_at : (q a r : ℕ) → q < A.states → a < A.letters → r < A.states → transition_in A.transitions q a r ≡ transition A q a r
-  unfolding transition
-  transition_at q a r hq ha hr =
-      sym (ap (λ (b : Bool). b && transition_bit A q a r) (T_true (in_header A q a r) ((in_header_iff A q a r).1 (hq, ha, hr))))
-
   module _ (rows : List ℕ)
       (e-rows : (q r : ℕ) → q < A.states → r < 32
-      → row_has rows q r ≡ some (λ a. transition_in A.transitions q a r) A.letters 0) where
+      → row_has rows q r ≡ some (λ a. transition_bit A q a r) A.letters 0) where
     edge_at : (q r : ℕ) → q < A.states → r < A.states → row_has rows q r ≡ edge A q r
     unfolding edge
     edge_at q r hq hr =
         let few = c.few_states in
-        e-rows q r hq (omega arith) ∙ some_same _ _ A.letters (λ a ha. transition_at q a r hq ha hr)
+        e-rows q r hq (omega arith) ∙ some_same _ _ A.letters (λ a ha. sym (transition_bit_lem A q a r hq ha hr))
 
     edges_table : relation A.states (row_has rows) ≡ relation A.states (edge A)
     unfolding relation

@@ -94,6 +94,8 @@ fn with_row(set: u32, from: u32, p: usize, row: u32) -> u32
     if has(from, p) { set | row } else { set }
 }
 
+// The rows below are those of an array for 32 states, of which the first n are used: slices of them would say no more than n.
+
 // The states to which the first n rows relate a state of the set.
 pub fn spread(rows: &[u32], set: u32, n: usize) -> u32
     requires { (n ≤ 32) × (n ≤ length rows.now) }
