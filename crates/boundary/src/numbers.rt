@@ -1,10 +1,10 @@
 // The numbers that stand for answers.
 ghost use Rattle.std.specs.Prelude.{◌≡◌, ◌<◌, ◌^◌};
 ghost use Rattle.answers.specs.Outcomes.{outcome_for};
-ghost use Rattle.fixed_form.specs.WriteAnswers.{write_answer};
-ghost use Rattle.history.specs.OfferAnswers.{NoSlots, walk_number, offer_answer};
-ghost use Rattle.history.specs.OpenAnswers.{open_answer};
-ghost use Rattle.history.specs.VerdictAnswers.{verdict_answer};
+ghost use Rattle.fixed_form.specs.WriteAnswers.{write_answer_of};
+ghost use Rattle.history.specs.OfferAnswers.{NoSlots, walk_number, offer_answer_of};
+ghost use Rattle.history.specs.OpenAnswers.{open_answer_of};
+ghost use Rattle.history.specs.VerdictAnswers.{verdict_answer_of};
 ghost use Rattle.boundary.specs.Numbers.{packed, outcome_number, open_number, packed_offer, offer_number, verdict_number, write_number};
 
 use answers::{ContainRefusal, Containment, WalkRefusal};
@@ -41,8 +41,8 @@ pub fn outcome_number(outcome: Result<Containment, ContainRefusal>) -> u64
 
 // The number of what open answers.
 pub fn open_number(opened: Result<(), OpenRefusal>) -> u64
-    requires { open_number (open_answer opened) < 2 ^ 64 }
-    ensures { result ≡ open_number (open_answer opened) }
+    requires { open_number (open_answer_of opened) < 2 ^ 64 }
+    ensures { result ≡ open_number (open_answer_of opened) }
 {
     match opened {
         Ok(()) => 0,
@@ -75,8 +75,8 @@ fn no_slots_number(walk: Walk, slots: usize) -> u64
 
 // The number of what offer answers.
 pub fn offer_number(offered: Result<Offered, OfferRefusal>) -> u64
-    requires { offer_number (offer_answer offered) < 2 ^ 64 }
-    ensures { result ≡ offer_number (offer_answer offered) }
+    requires { offer_number (offer_answer_of offered) < 2 ^ 64 }
+    ensures { result ≡ offer_number (offer_answer_of offered) }
 {
     match offered {
         Ok(Offered::Taken { forward, back }) => packed_offer(0, forward, back, 0, 0),
@@ -92,8 +92,8 @@ pub fn offer_number(offered: Result<Offered, OfferRefusal>) -> u64
 
 // The number of what verdict answers.
 pub fn verdict_number(accepted: Result<bool, VerdictRefusal>) -> u64
-    requires { verdict_number (verdict_answer accepted) < 2 ^ 64 }
-    ensures { result ≡ verdict_number (verdict_answer accepted) }
+    requires { verdict_number (verdict_answer_of accepted) < 2 ^ 64 }
+    ensures { result ≡ verdict_number (verdict_answer_of accepted) }
 {
     match accepted {
         Ok(accepted) => u64::from(accepted),
@@ -103,8 +103,8 @@ pub fn verdict_number(accepted: Result<bool, VerdictRefusal>) -> u64
 
 // The number of what a call that writes a file answers.
 pub fn write_number<R: Numbered>(written: Result<usize, WriteRefusal<R>>) -> u64
-    requires { write_number (write_answer R.number written) < 2 ^ 64 }
-    ensures { result ≡ write_number (write_answer R.number written) }
+    requires { write_number (write_answer_of R.number written) < 2 ^ 64 }
+    ensures { result ≡ write_number (write_answer_of R.number written) }
 {
     match written {
         Ok(len) => 256 * (len as u64),

@@ -4,9 +4,9 @@
 use Rattle.std.specs.Prelude.{◌≡◌, Result, Ok, Err}
 use Rattle.automaton.specs.declared.Automaton.{Automaton}
 use Rattle.history.specs.declared.OfferRefusal.{OfferRefusal}
-use Rattle.history.specs.OfferAnswers.{Refused, offer_refusal_number, offer_answer}
+use Rattle.history.specs.OfferAnswers.{Refused, offer_refusal_number, offer_answer_of}
 use Rattle.history.specs.Opens.{Vetted, stopped, passed}
 
 abbrev pub VettedBy : Result (Unit {0}) OfferRefusal → Vetted → Automaton → Type 0
 VettedBy (Ok _) v B = v ≡ passed B
-VettedBy (Err r) v B = (v ≡ stopped (offer_refusal_number r)) × (offer_answer (Err r) ≡ Refused (offer_refusal_number r))
+VettedBy (Err r) v B = (v ≡ stopped (offer_refusal_number r)) × (offer_answer_of (Err r) ≡ Refused (offer_refusal_number r))

@@ -3,7 +3,7 @@ ghost use Rattle.std.specs.Prelude.{◌≡◌, ◌≤◌, length, take};
 ghost use Rattle.automaton.specs.Automata.{InRange};
 ghost use Rattle.graph.specs.LagGraph.{max_bound};
 ghost use Rattle.answers.specs.Outcomes.{comparison_of};
-ghost use Rattle.history.specs.OfferAnswers.{offer_answer};
+ghost use Rattle.history.specs.OfferAnswers.{offer_answer_of};
 ghost use Rattle.history.specs.OfferDemand.{OfferDemand1};
 ghost use Rattle.history.specs.Offers.{
   offer_vetting,
@@ -52,7 +52,7 @@ fn back_answer(
     forward: usize,
     back: Result<Containment, WalkRefusal>,
 ) -> Result<Offered, OfferRefusal>
-    ensures { offer_answer result ≡ back_answer forward (comparison_of back) }
+    ensures { offer_answer_of result ≡ back_answer forward (comparison_of back) }
 {
     match back {
         Ok(Containment::Contained(back)) => Ok(Offered::Taken { forward, back }),
@@ -74,7 +74,7 @@ fn walk_both(
     word: &mut [u8],
 ) -> Result<Offered, OfferRefusal>
     requires { bound ≤ max_bound }
-    ensures answer { offer_answer result
+    ensures answer { offer_answer_of result
         ≡ walks_answer (walks_of held.entry.automaton.now offer.entry.automaton.now bound work.old word.old) }
     ensures work { work.new
         ≡ walks_work (walks_of held.entry.automaton.now offer.entry.automaton.now bound work.old word.old) }
@@ -96,7 +96,7 @@ fn walk_both(
 
 // Whether the answer is "taken".
 pub fn is_taken(offered: Result<Offered, OfferRefusal>) -> bool
-    ensures { result ≡ is_taken (offer_answer offered) }
+    ensures { result ≡ is_taken (offer_answer_of offered) }
 {
     matches!(offered, Ok(Offered::Taken { .. }))
 }
@@ -111,7 +111,7 @@ pub fn offer_entry(
     work: &mut [u8],
     word: &mut [u8],
 ) -> Result<Offered, OfferRefusal>
-    ensures answer { offer_answer result ≡ (offer_of entry.old file.now bound work.old word.old).answer }
+    ensures answer { offer_answer_of result ≡ (offer_of entry.old file.now bound work.old word.old).answer }
     ensures entry { entry.new ≡ (offer_of entry.old file.now bound work.old word.old).entry }
     ensures work { work.new ≡ (offer_of entry.old file.now bound work.old word.old).work }
     ensures word { word.new ≡ (offer_of entry.old file.now bound work.old word.old).word }
@@ -142,7 +142,7 @@ pub fn offer_entry(
 
 // The length of the word that an answer comes with: 0 where there is no word.
 pub fn part_length(offered: Result<Offered, OfferRefusal>) -> usize
-    ensures { result ≡ part_length (offer_answer offered) }
+    ensures { result ≡ part_length (offer_answer_of offered) }
 {
     match offered {
         Ok(Offered::Forward { len, .. } | Offered::Back { len, .. }) => len,
@@ -153,8 +153,8 @@ pub fn part_length(offered: Result<Offered, OfferRefusal>) -> usize
 // The word that an offer's answer comes with, as the written part of the word buffer that the offer left, which is not copied; without
 // a word the part is empty.
 pub fn offer_part<'a>(offered: Result<Offered, OfferRefusal>, word: &'a mut [u8]) -> &'a mut [u8]
-    requires { part_length (offer_answer offered) ≤ length word.old }
-    ensures part { result.now ≡ take (part_length (offer_answer offered)) word.old }
+    requires { part_length (offer_answer_of offered) ≤ length word.old }
+    ensures part { result.now ≡ take (part_length (offer_answer_of offered)) word.old }
     ensures place { result.ref_ptr ≡ word.entry.ref_ptr }
 {
     let n = part_length(offered);

@@ -1,6 +1,6 @@
 // The verdict call on an entry.
 ghost use Rattle.std.specs.Prelude.{◌≡◌};
-ghost use Rattle.history.specs.VerdictAnswers.{verdict_answer};
+ghost use Rattle.history.specs.VerdictAnswers.{verdict_answer_of};
 ghost use Rattle.history.specs.VerdictDemand.{VerdictDemand1};
 ghost use Rattle.history.specs.Verdicts.{verdict_of};
 
@@ -11,7 +11,7 @@ use history::{Entry, VerdictRefusal};
 // Whether the entry's automaton accepts the lasso word of the stem and the loop `cycle`, and demand 1 in its own words.
 #[tactic(auto, unfolding(history::specs::Verdicts::verdict_of))]
 pub fn verdict(entry: &Entry, stem: &[u8], cycle: &[u8]) -> Result<bool, VerdictRefusal>
-    ensures answer { verdict_answer result ≡ verdict_of entry.now stem.now cycle.now }
+    ensures answer { verdict_answer_of result ≡ verdict_of entry.now stem.now cycle.now }
     ensures demand1 { VerdictDemand1 entry.now stem.now cycle.now }
 {
     if malformed(entry) {

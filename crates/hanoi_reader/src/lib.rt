@@ -4,7 +4,7 @@
 
 ghost use Rattle.std.specs.Prelude.{◌≡◌, ◌≤◌, ◌^◌, replicate, OnOk};
 ghost use Rattle.automaton.specs.Automata.{bare, InRange};
-ghost use Rattle.fixed_form.specs.WriteAnswers.{write_answer};
+ghost use Rattle.fixed_form.specs.WriteAnswers.{write_answer_of};
 ghost use Rattle.hanoi.specs.Numbers.{text_number};
 ghost use Rattle.hanoi.specs.Hanoi.{hanoi_of};
 ghost use Rattle.hanoi.specs.HanoiDemand.{HanoiDemand1};
@@ -63,7 +63,7 @@ fn read(text: &[u8], automaton: &mut Automaton) -> Result<(), TextRefusal>
 
 // Writes the automaton of a Hanoi text in the fixed form: the answer, every byte of the buffer, and demand 1 in its own words.
 pub fn write_text(text: &[u8], out: &mut [u8]) -> Result<usize, WriteRefusal<TextRefusal>>
-    ensures answer { write_answer text_number result ≡ (hanoi_of text.now out.old).answer }
+    ensures answer { write_answer_of text_number result ≡ (hanoi_of text.now out.old).answer }
     ensures out { out.new ≡ (hanoi_of text.now out.old).out }
     ensures demand1 { HanoiDemand1 text.now out.old }
 {

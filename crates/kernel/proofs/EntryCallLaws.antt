@@ -19,7 +19,7 @@ use Rattle.history.specs.declared.Entry.{Entry}
 use Rattle.std.specs.Prelude.{Result, Ok, Err}
 use Rattle.std.specs.Result.{is_ok}
 use Rattle.history.specs.declared.OpenRefusal.{OpenRefusal as Refusal}
-use Rattle.history.specs.OpenAnswers.{OpenAnswer, open_answer}
+use Rattle.history.specs.OpenAnswers.{OpenAnswer, open_answer_of}
 use Rattle.history.specs.OpenAnswers.{Opened, Refused as OpenRefused}
 use Rattle.history.specs.OfferAnswers.{OfferAnswer}
 use Rattle.history.specs.OfferAnswers.{Taken, Forward, Back, Refused, NoSlots, NoRoom}
@@ -124,7 +124,7 @@ module _ (s f : List ℕ) where
   unfolding open_bytes
   entry_open_bytes e = rw e refl
 
-pub opened_result_fits : (E : Entry) (f : List ℕ) (G : Entry) (x : Result (Unit {0}) Refusal) → open_answer x ≡ (open_of E f).answer
+pub opened_result_fits : (E : Entry) (f : List ℕ) (G : Entry) (x : Result (Unit {0}) Refusal) → open_answer_of x ≡ (open_of E f).answer
     → G ≡ (open_of E f).entry → is_ok x ≡ true → FitsBytes G
 opened_result_fits E f G (Ok _) d e h = subst FitsBytes (sym e) (opened_fits E f (ap is_opened (sym d)))
 opened_result_fits E f G (Err r) d e h = absurd cc

@@ -12,7 +12,7 @@ use Rattle.answers.specs.declared.WalkRefusal.TheVariants.{NoSlots, NoRoom}
 use Rattle.history.specs.declared.Entry.{Entry}
 use Rattle.history.specs.declared.OfferRefusal.{OfferRefusal}
 use Rattle.history.specs.declared.OfferRefusal.TheVariants.{Malformed, Empty, File, Bound, Letters, Dead, NotSmaller, Walk}
-use Rattle.history.specs.OfferAnswers.{offer_answer, offer_refusal_number}
+use Rattle.history.specs.OfferAnswers.{offer_answer_of, offer_refusal_number}
 use Rattle.buffers.specs.Buffers.{WrittenAt}
 use Rattle.buffers.specs.Cursors.{Added}
 use Rattle.buffers.specs.declared.Cursor.{Cursor}
@@ -20,7 +20,7 @@ use Rattle.report.specs.Line.{offer_line, refused_line, line_after, answered_len
 use Rattle.buffers.proofs.Buffers.{written_keeps_length}
 
 -- a refusal's line is that of its number
-pub refusal_shown : (E : Entry) (w : List ℕ) (r : OfferRefusal) → refused_line (offer_refusal_number r) ≡ offer_line E (offer_answer (Err r)) w
+pub refusal_shown : (E : Entry) (w : List ℕ) (r : OfferRefusal) → refused_line (offer_refusal_number r) ≡ offer_line E (offer_answer_of (Err r)) w
 unfolding offer_line
 refusal_shown E w Malformed = refl
 refusal_shown E w Empty = refl

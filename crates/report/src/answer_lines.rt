@@ -2,7 +2,7 @@
 ghost use Rattle.std.specs.Prelude.{◌++◌, ◌+◌, ◌*◌, ◌≤◌, length};
 ghost use Rattle.buffers.specs.Cursors.{HasRoom, Added};
 ghost use Rattle.text.specs.Text.{decimal, space};
-ghost use Rattle.history.specs.OfferAnswers.{offer_answer};
+ghost use Rattle.history.specs.OfferAnswers.{offer_answer_of};
 ghost use Rattle.report.specs.Line.{newline, word_text, fields, offer_line, refused_line, misuse_line, line_room};
 ghost use Rattle.text.specs.Text.{letters as letters_text};
 
@@ -51,7 +51,7 @@ fn put_word(line: &mut Cursor, letters: &[u8])
 // Writes the line of an offer that comes to an outcome.
 fn put_offered(line: &mut Cursor, entry: &Entry, offered: Offered, letters: &[u8])
     requires { HasRoom line.old (line_room letters.now) }
-    ensures { Added line.old (offer_line entry.now (offer_answer (Ok offered)) letters.now) line.new }
+    ensures { Added line.old (offer_line entry.now (offer_answer_of (Ok offered)) letters.now) line.new }
 {
     match offered {
         Offered::Taken { forward, back } => {
@@ -89,7 +89,7 @@ pub fn put_answer(
     letters: &[u8],
 )
     requires { HasRoom line.old (line_room letters.now) }
-    ensures { Added line.old (offer_line entry.now (offer_answer answer) letters.now) line.new }
+    ensures { Added line.old (offer_line entry.now (offer_answer_of answer) letters.now) line.new }
 {
     match answer {
         Ok(offered) => put_offered(line, entry, offered, letters),

@@ -2,7 +2,7 @@
 #![tactic(auto)]
 
 ghost use Rattle.std.specs.Prelude.{◌≡◌, [], ◌+◌, ◌*◌, leb};
-ghost use Rattle.history.specs.OfferAnswers.{offer_answer};
+ghost use Rattle.history.specs.OfferAnswers.{offer_answer_of};
 ghost use Rattle.report.specs.Line.{offer_line, refused_line, misuse_line, line_room, Lined};
 
 mod answer_lines;
@@ -36,7 +36,7 @@ pub fn offer_line(
     letters: &[u8],
     line: &mut [u8],
 ) -> Option<usize>
-    ensures { Lined (line_room letters.now) (offer_line entry.now (offer_answer answer) letters.now)
+    ensures { Lined (line_room letters.now) (offer_line entry.now (offer_answer_of answer) letters.now)
         line.old line.new result }
 {
     if !has_room(line.len(), letters.len()) {

@@ -17,7 +17,7 @@ use Rattle.buffers.specs.Cursors.{Added}
 use Rattle.buffers.proofs.Cursors.{added_front}
 use Rattle.fixed_form.specs.declared.WriteRefusal.{WriteRefusal}
 use Rattle.fixed_form.specs.declared.WriteRefusal.TheVariants.{Unread}
-use Rattle.fixed_form.specs.WriteAnswers.{WriteAnswer, write_answer}
+use Rattle.fixed_form.specs.WriteAnswers.{WriteAnswer, write_answer_of}
 use Rattle.fixed_form.specs.WriteAnswers.{Wrote, NoRoom}
 use Rattle.fixed_form.specs.FixedForm.{written}
 use Rattle.fixed_form.specs.Write.{Write, writing, write_of}
@@ -55,11 +55,11 @@ pub record GivesFile (f d : List ℕ) (x : WriteAnswer) (e : List ℕ) : Type 0 
 -- r and A are what the reader answers and leaves of the file f, and d the buffer before
 module _ (f d : List ℕ) (r : Result (Unit {0}) FileRefusal) (A : Automaton) (answered : read_of r A ≡ read_file f) where
   pub refused_writes : (x : FileRefusal) (y : Result ℕ (WriteRefusal FileRefusal)) → r ≡ Err x → y ≡ Err (Unread x)
-      → GivesFile f d (write_answer file_number y) d
+      → GivesFile f d (write_answer_of file_number y) d
   refused_writes x y p q =
       let e = write_refused f d (file_number x) (sym answered ∙ ap (λ (z : Result (Unit {0}) FileRefusal). read_of z A) p) in
       record {
-        answer = ap (write_answer file_number) q ∙ sym (ap (λ (w : Write). w.answer) e);
+        answer = ap (write_answer_of file_number) q ∙ sym (ap (λ (w : Write). w.answer) e);
         out = sym (ap (λ (w : Write). w.out) e);
         demand1 = write_demand_1 f d;
       }

@@ -7,7 +7,7 @@ ghost use Rattle.buffers.specs.Cursors.{HasRoom, Added};
 ghost use Rattle.format.specs.Numbers.{file_number};
 ghost use Rattle.fixed_form.specs.FixedForm.{written};
 ghost use Rattle.fixed_form.specs.Write.{writing, write_of};
-ghost use Rattle.fixed_form.specs.WriteAnswers.{write_answer};
+ghost use Rattle.fixed_form.specs.WriteAnswers.{write_answer_of};
 ghost use Rattle.fixed_form.specs.WriteDemand.{WriteDemand1};
 
 use automaton::{Automaton, Valid};
@@ -41,7 +41,7 @@ fn put_file(out: &mut Cursor, valid: Valid)
 // Writes the file of an automaton to the front of the buffer, and answers its length; without the room for it nothing is written.
 pub fn write<R>(valid: Valid, out: &mut [u8]) -> Result<usize, WriteRefusal<R>>
     ensures answer { (number : R → ℕ)
-        → write_answer number result ≡ (writing valid.entry.automaton.now out.old).answer }
+        → write_answer_of number result ≡ (writing valid.entry.automaton.now out.old).answer }
     ensures out { out.new ≡ (writing valid.entry.automaton.now out.old).out }
 {
     let needed = length_of(valid);
@@ -55,7 +55,7 @@ pub fn write<R>(valid: Valid, out: &mut [u8]) -> Result<usize, WriteRefusal<R>>
 
 // Writes the automaton of a file in the fixed form: the answer, every byte of the buffer, and demand 1 in its own words.
 pub fn write_file(file: &[u8], out: &mut [u8]) -> Result<usize, WriteRefusal<FileRefusal>>
-    ensures answer { write_answer file_number result ≡ (write_of file.now out.old).answer }
+    ensures answer { write_answer_of file_number result ≡ (write_of file.now out.old).answer }
     ensures out { out.new ≡ (write_of file.now out.old).out }
     ensures demand1 { WriteDemand1 file.now out.old }
 {
