@@ -5,7 +5,6 @@
 --   transition_count A     the number of transitions
 --   bare n k i             n states, k letters, initial state i, nothing accepting and no transition
 --   with_accepting, with_transition  one accepting state, one transition more
---   whole_of h t            the automaton with the head h and the transitions t
 --   InRange A, in_range A  the header's numbers are those that a file may have, and no bit is set for a state or a letter that they
 --                          leave out: said, and computed
 -- Shown by `in_range_iff`: the two say the same. By `equal_automata` an automaton in range is known by its header, its accepting states and its
@@ -70,7 +69,6 @@ with_transition A q a r =
       accepting = A.accepting;
       transitions = set A.transitions (place q a r) (with_bit (get_or A.transitions (place q a r) 0) (r % 8));
     }
-
 
 -- a header's three numbers are in their ranges; the initial state is one of the n states
 unfoldable pub header_values : ℕ → ℕ → ℕ → Bool
