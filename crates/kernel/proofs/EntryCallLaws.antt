@@ -1,6 +1,6 @@
 -- What the calls on an entry's bytes need: bytes of an entry have its length, the numbers of the answers fit 64 bits, and the entry that
 -- opened or taken leaves fits its bytes. Assumes nothing.
-use mathlib.Core.Path.{◌≡◌, refl, sym, ap, ap₂, subst, ◌∙◌}
+use mathlib.Core.Path.{◌≡◌, refl, sym, ap, subst, ◌∙◌}
 use mathlib.Core.Bool.{Bool, true, false, cond, ◌||◌}
 use mathlib.Core.List.{List}
 use Prim.Native.Nat.{ℕ, ◌+◌, ◌*◌, ◌^◌, ◌≤◌, ◌<◌}
@@ -27,8 +27,8 @@ use Rattle.history.specs.VerdictAnswers.{VerdictAnswer}
 use Rattle.history.specs.VerdictAnswers.{Yes, No, Refused as VerdictRefused}
 use Rattle.history.specs.Entries.{malformed, WellFormed}
 use Rattle.history.specs.Verdicts.{verdict_of}
-use Rattle.history.specs.Opens.{Vetted, stopped, passed, open_checks, opened, Open, open_of, first_edition}
-use Rattle.history.specs.Offers.{Offer, is_taken, offer_of, next_edition}
+use Rattle.history.specs.Opens.{Vetted, stopped, passed, open_checks, opened, open_of, first_edition}
+use Rattle.history.specs.Offers.{is_taken, offer_of, next_edition}
 use Rattle.history.proofs.OfferCases.{by_offer}
 use Rattle.boundary.specs.Bytes.{entry_length, is_entry, entry_of, FitsBytes}
 use Rattle.boundary.specs.Numbers.{open_number, offer_number, verdict_number}
@@ -41,18 +41,7 @@ use Rattle.history.proofs.OpenAnswers.{open_numbers}
 use Rattle.history.specs.OfferDemand.{OfferRefusal, WalkNumber, forward_walk, back_walk, OfferListed}
 use Rattle.history.specs.OfferDemand as offers
 use Rattle.history.proofs.OfferAnswers.{offer_numbers}
-use Rattle.kernel.specs.EntryCalls.{
-  no_entry,
-  is_opened,
-  stored,
-  open_bytes_number,
-  open_bytes,
-  offer_bytes_number,
-  offer_bytes,
-  offer_bytes_work,
-  offer_bytes_word,
-  verdict_bytes_number,
-}
+use Rattle.kernel.specs.EntryCalls.{is_opened, stored, open_bytes, verdict_bytes_number}
 
 pub entry_long : (s : List ℕ) → is_entry s ≡ true → length s ≡ entry_length
 unfolding is_entry
