@@ -44,8 +44,7 @@ fn show_call(
     work: &mut [u8],
     word: &mut [u8],
 ) -> io::Result<()> {
-    let mut number: u64 = 0;
-    let part = kernel::contain_part(first, second, bound, work, word, &mut number);
+    let (number, part) = kernel::contain_part(first, second, bound, work, word);
     print!(rt; "{number} part")?;
     show_part(rt, part)
 }
