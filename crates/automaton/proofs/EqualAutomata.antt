@@ -1,6 +1,6 @@
 -- Equal automata are equal values: two automata in range with the same header, the same accepting states and the same transitions
 -- have the same bytes. A byte is known by its eight bits, and every bit of the two sets is a state's or a transition's. Assumes nothing.
-use mathlib.Core.Path.{◌≡◌, refl, sym, ap, subst, ◌∙◌}
+use mathlib.Core.Path.{◌≡◌, refl, sym, subst, ◌∙◌}
 use mathlib.Core.List.{List}
 use Prim.Native.Nat.{ℕ, zero, suc, ◌+◌, ◌*◌, ◌/◌, ◌%◌, ◌^◌, ◌<◌}
 use native.Mathlib.Nat.{pow-succ'}

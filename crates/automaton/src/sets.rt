@@ -35,7 +35,7 @@ pub fn add_member(set: &mut [u8; 4], q: usize)
     set[q / 8] = with_bit(set[q / 8], q % 8);
 }
 
-// The number of the lowest set bit of a byte; of 0 it is 8.
+// The number of the lowest set bit of a byte; of 0 it is 8. A number and no Option, since the rule that it follows gives that value for 0.
 pub fn least_member(w: u8) -> usize
     ensures { result ≡ least_member w }
 {

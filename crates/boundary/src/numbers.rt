@@ -1,4 +1,4 @@
-// The numbers that stand for answers.
+// The numbers that stand for answers, as the C interface has them.
 ghost use Rattle.std.specs.Prelude.{◌≡◌, ◌<◌, ◌^◌};
 ghost use Rattle.answers.specs.Outcomes.{outcome_for};
 ghost use Rattle.fixed_form.specs.WriteAnswers.{write_answer_of};

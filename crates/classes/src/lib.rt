@@ -17,7 +17,8 @@ use slots::{MAX_SLOTS, SLOT_SIZE, Vertex};
 const KEYS: usize = 4096;
 
 // The index of the slots: for each key the top leader with it, for each slot that leads the next leader with its key, and for each slot that
-// joined a class that class, 1 + a slot and 0 for none; and for each leader the left states that are listed with its counters.
+// joined a class that class, 1 + a slot and 0 for none; and for each leader the left states that are listed with its counters. Numbers and no
+// Options, which would not fit 16 bits in the fixed memory.
 #[derive(Drop)]
 pub struct Index {
     pub heads: [u16; KEYS],

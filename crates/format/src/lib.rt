@@ -31,6 +31,15 @@ impl Numbered for FileRefusal {
     }
 }
 
+// A number stands for itself, so that what takes a refusal takes its number too.
+impl Numbered for usize {
+    ghost number = { λ n. n };
+
+    fn number(self) -> usize {
+        self
+    }
+}
+
 // A record past the header, with the position after it where one follows.
 #[derive(Clone, Copy, Debug, PartialEq, Eq)]
 pub enum Record {

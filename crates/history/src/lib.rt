@@ -12,7 +12,8 @@ use answers::WalkRefusal;
 use automaton::Automaton;
 use format::{FileRefusal, Numbered};
 
-// An entry: whether it holds an edition, that edition's number and automaton, and how many states the first edition had.
+// An entry: whether it holds an edition, that edition's number and automaton, and how many states the first edition had. A flag and no Option, since
+// an empty entry keeps all its documented bytes.
 #[derive(Clone, Copy)]
 pub struct Entry {
     pub filled: bool,

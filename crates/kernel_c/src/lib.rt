@@ -1,4 +1,5 @@
-// The functions of the crate `kernel` under their C names, with the same promises: the static library that vendors link.
+// The functions of the crate `kernel` under their C names, with the same promises: the static library that vendors link. They stand beside those
+// for the C interface, since no crate can use a static library.
 #![tactic(auto)]
 
 ghost use Rattle.std.specs.Prelude.{◌≡◌};

@@ -56,7 +56,8 @@ fn expand(
     Ok(count)
 }
 
-// Expands all places, from place 0 on, those that are listed meanwhile too. The answer is the number of vertices listed.
+// Expands all places, from place 0 on, those that are listed meanwhile too. The answer is the number of vertices listed. No `for`, which would
+// take that number at its start.
 fn expand_all(rules: &Rules, work: &mut [u8], index: &mut Index, n: usize) -> Result<usize, Stop>
     requires { Ready work.old index.old n }
     ensures { Becomes work.old n work.new result (λ S. expanding_all (graph_of rules.now) (below S) S 0) }

@@ -33,7 +33,8 @@ pub fn put_accepting(out: &mut Cursor, valid: Valid)
     }
 }
 
-// Writes the records of the transitions from q on letter a, lowest target first.
+// Writes the records of the transitions from q on letter a, lowest target first. A function beside put_accepting, since no closure may give an array of a
+// length of its own, and one that gives slices is no plainer.
 fn put_targets(out: &mut Cursor, valid: Valid, q: usize, a: usize)
     requires { ((q < valid.automaton.now.states) × (a < valid.automaton.now.letters))
         × HasRoom out.old (length (items_bytes (target_items valid.automaton.now q a))) }

@@ -1,5 +1,5 @@
 -- `read` meets its contract: the first record decides, and the others are read from its end on. Assumes nothing.
-use mathlib.Core.Path.{◌≡◌, sym, ap, ◌∙◌}
+use mathlib.Core.Path.{sym, ap, ◌∙◌}
 use Rattle.std.proofs.Common.{rules}
 use Rattle.format.specs.File.{next}
 use Rattle.file.specs.Taking.{start_step}

@@ -1,10 +1,9 @@
 -- `read_records` meets its contract. The invariant: the file is read up to the position, with the automaton so far; the measure is the number of
 -- bytes left. Assumes nothing.
-use mathlib.Core.Path.{◌≡◌, sym, ap, ◌∙◌}
+use mathlib.Core.Path.{sym, ap, ◌∙◌}
 use native.Mathlib.Omega.{arith}
-use Rattle.std.proofs.Common.{Ok, ◌≤◌}
+use Rattle.std.proofs.Common.{Ok}
 use Rattle.std.proofs.lemmas.Result.{err_from_is_err_and}
-use Rattle.file.specs.Taking.{read_of}
 use Rattle.file.proofs.RecordParts.{header_holds, reading_starts, reading_refused, reading_ends, reading_advances}
 use Rattle.file.proofs.read_records.Goals as goal
 

@@ -1,6 +1,4 @@
 -- `least_member` meets its contract: the least member is the number of trailing zeros, which is at most 8. Assumes nothing.
-use native.Mathlib.Omega.{arith}
-use lib.Count.{trailing_le}
 use Rattle.automaton.proofs.LeastMembers.{trailing_least}
 use Rattle.automaton.proofs.sets.least_member.Goals as goal
 
