@@ -1,8 +1,8 @@
 -- The left targets of a step, discovered from the lowest up: before each of them those that are still to come, from the list that the work
 -- buffer shows, make the walk of all of them, and none of them is listed. The idea: what is listed meanwhile has another left state, and a class
 -- that is not 0 stays. Assumes nothing.
-use mathlib.Core.Path.{◌≡◌, refl, sym, ◌∙◌, ap}
-use mathlib.Core.Bool.{Bool, true, false, cond}
+use mathlib.Core.Path.{◌≡◌, refl, sym, ◌∙◌, ap, subst}
+use mathlib.Core.Bool.{Bool, true, false, cond, ◌&&◌, not}
 use mathlib.Core.List.{List, [], ◌∷◌, map}
 use Prim.Native.Nat.{ℕ, zero, suc, ◌+◌, ◌≤◌, ◌<◌}
 use native.Mathlib.Omega.{arith}
@@ -16,15 +16,19 @@ use Rattle.automaton.specs.Automata.{max_states}
 use Rattle.automaton.specs.Ranges.{those}
 use Rattle.automaton.specs.Sets.{bit}
 use Rattle.automaton.proofs.Bits.{bit_zero}
+use Rattle.automaton.proofs.Members.{those_same}
 use Rattle.slots.specs.declared.Vertex.{Vertex}
-use Rattle.slots.specs.Slots.{slot_count, same_list}
+use Rattle.slots.specs.Slots.{slot_count, same_list, same_vertex}
+use Rattle.slots.proofs.Compared.{left_differs}
 use Rattle.classes.specs.Classes.{class_or, class_of, listed_with}
 use Rattle.classes.proofs.Appended.{class_next_slot, listed_next_slot}
-use Rattle.graph.specs.Discovery.{Node, going, below, discover, discover_all}
+use Rattle.graph.specs.Discovery.{Node, Walk, going, below, discover, discover_all}
 use Rattle.graph.specs.LagGraph.{lag_graph}
+use Rattle.graph.proofs.Unlisted.{discover_unlisted}
 use Rattle.discovery.specs.declared.Stop.{Stop}
 use Rattle.discovery.specs.declared.sides.Sides.{Sides}
 use Rattle.discovery.specs.Representation.{vertex_of, Represents, Becomes, Takes, Grows, ClassKnown, side_of, counters_to, SideReady, TargetReady, SidesReady}
+use Rattle.discovery.proofs.RepresentedSlots.{listed_represented}
 use Rattle.discovery.proofs.FoldLoops.{FoldLoops, onward_next, onward_stop, onward_end}
 
 -- What the slots and the answer of two steps give together.
@@ -186,3 +190,24 @@ states_none w e = ap (λ (x : ℕ). those (bit x) max_states 0) e ∙ none max_s
     none : (n i : ℕ) → those (bit 0) n i ≡ []
     none zero i = refl
     none (suc n) i = ap (λ (c : Bool). elim c [ true ↦ i ∷ those (bit 0) n (suc i) | false ↦ those (bit 0) n (suc i) ]) (bit_zero i) ∙ none n (suc i)
+
+-- Of the targets on a letter those that are left are the ones that are not listed: the others make no difference to the walk.
+module _ (work : List ℕ) (n letter p : ℕ) (sides : Sides) (targets rest : ℕ)
+    (left : (t : ℕ) → t < max_states → bit rest t ≡ (bit targets t && not (listed_with work (counters_to sides t) n t))) where
+  abbrev edge_to : ℕ → ℕ × Vertex
+  edge_to t = (letter, vertex_of t (counters_to sides t))
+
+  apart : (t u : ℕ) → u < t → same_vertex (edge_to t).1 (edge_to u).1 ≡ false
+  apart t u l = left_differs (edge_to t).1 (edge_to u).1 (λ e. absurd (omega arith))
+
+  pub listed_left_out : (A B : Automaton) (b : ℕ) (work' : List ℕ) (r : Result ℕ Stop)
+      → Becomes work n work' r (λ S w. discover_all (lag_graph A B b) (below S) p w (edges_of letter sides rest))
+      → Becomes work n work' r (λ S w. discover_all (lag_graph A B b) (below S) p w (edges_of letter sides targets))
+  listed_left_out A B b work' r made start ns S =
+      let unlisted = λ (t : ℕ). bit targets t && not (listed_with work (counters_to sides t) n t) in
+      subst (λ (w : Walk Vertex). Represents work' r start w)
+      (ap (λ (ts : List ℕ). discover_all (lag_graph A B b) (below (slot_count (length start))) p (going ns) (map edge_to ts))
+      (those_same (bit rest) unlisted max_states 0 (λ t l h. left t (omega arith)))
+      ∙ sym (discover_unlisted (lag_graph A B b) (below (slot_count (length start))) p edge_to apart (bit targets) unlisted max_states 0 ns
+      (λ t l. ap (λ (c : Bool). bit targets t && not c) (sym (listed_represented A B b work n start ns S (edge_to t).1)))))
+      (made start ns S)

@@ -12,7 +12,7 @@
 --   counters_to                 the counters of the side of t
 --   SideReady                  the class of the side's counters is known, and the left target t is not listed with them
 --   TargetReady, SidesReady    the same of the side of t; classes of both sides, and that none of the targets is listed
--- Shown by `listed_represented` and `discover_with_slot`. Assumes nothing.
+-- Shown by `listed_represented`, `listed_left_out` and `discover_with_slot`. Assumes nothing.
 use Rattle.std.specs.Prelude.{◌≡◌, Bool, true, false, cond, List, [], ◌∷◌, ℕ, suc, ◌+◌, ◌≤◌, ◌<◌, length, Result, Ok, Err, IfOk}
 use Rattle.automaton.specs.Automata.{max_states}
 use Rattle.automaton.specs.Sets.{bit}
