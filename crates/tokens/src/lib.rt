@@ -68,10 +68,8 @@ pub fn token(text: &[u8], at: usize, word: &[u8]) -> Option<usize>
     ensures within { IfSome result (Past text.now (at + length word.now)) }
 {
     let j = skip(text, at);
-    if touches(text, j) {
-        return None;
-    }
-    text[j..].starts_with(word).then_some(j + word.len())
+    let stands = text[j..].starts_with(word) && !touches(text, j);
+    stands.then_some(j + word.len())
 }
 
 // The value with one digit more behind it, at most 1,000.
