@@ -1,11 +1,12 @@
--- What one step of the label reader comes to, as the code answers: a disjunction between two turns of its loop, and the kinds of operands. The fuel is a number
+-- What one step of the label reader comes to, as the code answers: a chain between two turns of its loop, and the kinds of operands. A chain's fuel is a number
 -- of bytes that are left or more, so it is never used up. Assumes nothing.
 use mathlib.Core.Path.{◌≡◌, refl, sym, ap, ap₂, ◌∙◌}
+use mathlib.Core.Bool.{Bool, true, false}
 use mathlib.Core.List.{List}
 use Prim.Native.Nat.{ℕ, zero, suc, ◌+◌, ◌-◌, ◌≤◌, ◌<◌, min}
 use native.Mathlib.Nat.{add-zero}
 use native.Mathlib.Omega.{arith}
-use lib.Bits.{bit_and, bit_or, or_zero_l}
+use lib.Bits.{bit_and, bit_or}
 use lib.ListN.{length, get_or}
 use borrow.Author.Tests.{eq-eqb, ne_eqb, lt-ltb, le-ltb}
 use Rattle.std.specs.Prelude.{Some, None}
@@ -15,7 +16,7 @@ use Rattle.tokens.specs.Tokens.{byte_at, skip, Number, none, number}
 use Rattle.tokens.specs.Places.{capped}
 use Rattle.tokens.proofs.Runs.{skip_end, byte_past}
 use Rattle.labels.specs.Labels.{Label, both, either, proposition, negation, proposition_mask, mask_of}
-use Rattle.labels.specs.LabelReading.{Found, absent, found, proposition_of, negated, closed, more, conjunction, disjunction}
+use Rattle.labels.specs.LabelReading.{Found, absent, found, proposition_of, negated, closed, more, chain, conjunction, disjunction}
 use Rattle.labels.proofs.LabelSteps.{operand_bare, operand_bang, operand_paren, operand_atom}
 use Rattle.label_reader.specs.declared.Truth.{Truth}
 use Rattle.label_reader.specs.Truths.{answer_of}
@@ -45,156 +46,135 @@ found_answer L j t m d =
     let held : ℕ → ℕ → Truth = λ n k. record { mask = n; behind = k } in
     ap Some (ap₂ held m d)
 
--- Disjunctions.
+-- Chains: what joins two labels, its byte, and what it joins, where f reads an operand.
 
-module _ (s : List ℕ) (f : ℕ → Found) where
-  -- a conjunction with the operands at its right, at most n of them, and what follows a conjunction, in which it has its place by `outer`
-  pub conjoined : ℕ → Label → ℕ → Found
-  conjoined n L j = more s 0x26 both f n L j
+pub data Operator : Type 0 where
+  And : Operator
+  Or : Operator
 
-  pub disjoined : ℕ → (Label → Label) → Found → Found
-  disjoined n outer x = elim x [ absent ↦ absent | found L j ↦ more s 0x7C either (conjunction s f) n (outer L) j ]
+abbrev pub mark_of : Operator → ℕ
+mark_of And = 0x26
+mark_of Or = 0x7C
 
-  -- between two turns: a conjunction of the truth t ends, the conjunctions before it have the letters e, and what follows comes to `whole`
-  pub record Joined (whole : Found) (e : ℕ) (t : Truth) : Type 0 where
+abbrev pub joined : Operator → Label → Label → Label
+joined And = both
+joined Or = either
+
+abbrev pub joined_mask : Operator → ℕ → ℕ → ℕ
+joined_mask And = bit_and
+joined_mask Or = bit_or
+
+abbrev pub part_of : Operator → List ℕ → (ℕ → Found) → ℕ → Found
+part_of And s f = f
+part_of Or s f = conjunction s f
+
+abbrev pub chain_of : Operator → List ℕ → (ℕ → Found) → ℕ → Found
+chain_of And s f = conjunction s f
+chain_of Or s f = disjunction s f
+
+mark_some : (o : Operator) → mark_of o ≡ 0 → ⊥
+mark_some And e = omega (arith, e)
+mark_some Or e = omega (arith, e)
+
+mask_joined : (o : Operator) (L M : Label) → mask_of (joined o L M) ≡ joined_mask o (mask_of L) (mask_of M)
+unfolding mask_of
+mask_joined And L M = refl
+mask_joined Or L M = refl
+
+chain_is : (o : Operator) (s : List ℕ) (f : ℕ → Found) (i : ℕ) → chain s (mark_of o) (joined o) (part_of o s f) i ≡ chain_of o s f i
+unfolding conjunction disjunction
+chain_is And s f i = refl
+chain_is Or s f i = refl
+
+module _ (s : List ℕ) (o : Operator) (f : ℕ → Found) where
+  abbrev pub more_of : ℕ → Label → ℕ → Found
+  more_of = more s (mark_of o) (joined o) (part_of o s f)
+
+  -- between two turns: a label of the truth t ends, and what follows from there comes to `whole`
+  pub record Chained (whole : Found) (t : Truth) : Type 0 where
+    pub fuel : ℕ
     pub label : Label
     pub mask : t.mask ≡ mask_of label
-    pub outer : Label → Label
-    pub outer_mask : (L : Label) → mask_of (outer L) ≡ bit_or e (mask_of L)
-    pub operands : ℕ
-    pub enough : length s ≤ t.behind + operands
-    pub conjunctions : ℕ
-    pub room : length s ≤ t.behind + conjunctions
-    pub onward : disjoined conjunctions outer (conjoined operands label t.behind) ≡ whole
+    pub enough : length s ≤ t.behind + fuel
+    pub onward : more_of fuel label t.behind ≡ whole
 
-  begun : Found → Found
-  begun x = elim x [ absent ↦ absent | found L k ↦ conjoined (length s) L k ]
+  first_of : Found → Found
+  first_of x = elim x [ absent ↦ absent | found L k ↦ more_of (length s) L k ]
 
-  begins : (i : ℕ) → conjunction s f i ≡ begun (f i)
-  unfolding conjunction begun conjoined
-  begins i = refl
+  pub chain_starts : (i : ℕ) (t : Truth) → Some t ≡ answer_of (part_of o s f i) → Chained (chain_of o s f i) t
+  unfolding first_of
+  chain_starts i t e =
+      let r = answer_some (part_of o s f i) t e in
+      record {
+        fuel = length s;
+        label = r.label;
+        mask = r.mask;
+        enough = omega arith;
+        onward = sym (ap first_of r.read) ∙ chain_is o s f i;
+      }
 
-  module _ (i : ℕ) where
-    pub joined_starts : (t : Truth) → Some t ≡ answer_of (f i) → Joined (disjunction s f i) 0 t
-    unfolding disjunction disjoined begun
-    joined_starts t e =
-        let r = answer_some (f i) t e in
-        record {
-          label = r.label;
-          mask = r.mask;
-          outer = λ L. L;
-          outer_mask = λ L. sym (or_zero_l (mask_of L));
-          operands = length s;
-          enough = omega arith;
-          conjunctions = length s;
-          room = omega arith;
-          onward = sym (ap (disjoined (length s) (λ L. L)) (begins i ∙ ap begun r.read));
-        }
+  pub chain_absent : (i : ℕ) → None ≡ answer_of (part_of o s f i) → None ≡ answer_of (chain_of o s f i)
+  unfolding answer_of first_of
+  chain_absent i e = sym (ap answer_of (sym (chain_is o s f i) ∙ ap first_of (answer_none (part_of o s f i) e)))
 
-    pub joined_absent : None ≡ answer_of (f i) → None ≡ answer_of (disjunction s f i)
-    unfolding answer_of disjunction disjoined begun
-    joined_absent e = sym (ap (λ x. answer_of (disjoined (length s) (λ L. L) x)) (begins i ∙ ap begun (answer_none (f i) e)))
-
-  module _ (whole : Found) (e : ℕ) (t : Truth) (g : Joined whole e t) where
-    -- what follows where no `&` stands, and where a conjunction ends
-    ended : (n : ℕ) → (byte_at s (skip s t.behind) ≡ 0x26 → ⊥) → conjoined n g.label t.behind ≡ found g.label t.behind
-    unfolding conjoined more
-    ended zero h = refl
-    ended (suc n) h = rw (ne_eqb (byte_at s (skip s t.behind)) 0x26 h, more) refl
-
-    over : (n : ℕ) → (byte_at s (skip s t.behind) ≡ 0x7C → ⊥) → (L : Label) → more s 0x7C either (conjunction s f) n L t.behind ≡ found L t.behind
+  module _ (whole : Found) (t : Truth) (c : Chained whole t) where
+    pub chain_ends : (byte_at s (skip s t.behind) ≡ mark_of o → ⊥) → Some t ≡ answer_of whole
     unfolding more
-    over zero h L = refl
-    over (suc n) h L = rw (ne_eqb (byte_at s (skip s t.behind)) 0x7C h, more) refl
+    chain_ends n = found_answer c.label t.behind t c.mask refl ∙ ap answer_of (sym (stops c.fuel) ∙ c.onward)
+      where
+        stops : (k : ℕ) → more_of k c.label t.behind ≡ found c.label t.behind
+        stops zero = refl
+        stops (suc k) =
+            ap (λ (b : Bool). elim b [
+              | true ↦ elim (part_of o s f (skip s t.behind + 1)) [ absent ↦ absent | found M i ↦ more_of k (joined o c.label M) i ]
+              | false ↦ found c.label t.behind
+            ]) (ne_eqb (byte_at s (skip s t.behind)) (mark_of o) n)
 
-    pub joined_ends : (byte_at s (skip s t.behind) ≡ 0x26 → ⊥) → (byte_at s (skip s t.behind) ≡ 0x7C → ⊥)
-        → (u : Truth) → u.mask ≡ bit_or e t.mask → u.behind ≡ t.behind → Some u ≡ answer_of whole
-    unfolding disjoined
-    joined_ends h k u m d =
-        found_answer (g.outer g.label) t.behind u (m ∙ ap (bit_or e) g.mask ∙ sym (g.outer_mask g.label)) d
-        ∙ ap answer_of (sym (ap (disjoined g.conjunctions g.outer) (ended g.operands h) ∙ over g.conjunctions k (g.outer g.label)) ∙ g.onward)
+    -- one part more: what follows from behind it comes to the whole, or there is none and the whole is absent
+    after : ℕ → Found → Found
+    after n x = elim x [ absent ↦ absent | found M i ↦ more_of n (joined o c.label M) i ]
 
-    -- a mark stands in the text, so something is left for what it joins
-    left : (m n : ℕ) → byte_at s (skip s t.behind) ≡ m → (m ≡ 0 → ⊥) → length s ≤ t.behind + n → (k : ℕ) × (n ≡ suc k)
-    left m zero h z l =
-        let past : length s ≤ t.behind = omega (arith, l, add-zero t.behind) in
-        absurd (z (sym h ∙ ap (λ (i : ℕ). get_or s i 0) (skip_end s t.behind past) ∙ byte_past s t.behind past))
-    left m (suc n) h z l = (n, refl)
+    record Turned : Type 0 where
+      left : ℕ
+      room : length s < t.behind + suc left + 1
+      turn : after left (part_of o s f (skip s t.behind + 1)) ≡ whole
 
-    -- one operand more in the conjunction, and one conjunction more
-    module _ (h : byte_at s (skip s t.behind) ≡ 0x26) where
-      both_on : Found → ℕ → Found
-      both_on x n = elim x [ absent ↦ absent | found M i ↦ conjoined n (both g.label M) i ]
+    module _ (e : byte_at s (skip s t.behind) ≡ mark_of o) where
+      turned : Turned
+      unfolding more after
+      turned = go c.fuel c.enough c.onward
+        where
+          go : (k : ℕ) → length s ≤ t.behind + k → more_of k c.label t.behind ≡ whole → Turned
+          go zero l h =
+              let past : length s ≤ t.behind = omega (arith, l, add-zero t.behind) in
+              absurd (mark_some o (sym e ∙ ap (λ (i : ℕ). get_or s i 0) (skip_end s t.behind past) ∙ byte_past s t.behind past))
+          go (suc k) l h =
+              record {
+                left = k;
+                room = omega arith;
+                turn =
+                    sym (ap (λ (b : Bool). elim b [
+                      | true ↦ elim (part_of o s f (skip s t.behind + 1)) [ absent ↦ absent | found M i ↦ more_of k (joined o c.label M) i ]
+                      | false ↦ found c.label t.behind
+                    ]) (eq-eqb (byte_at s (skip s t.behind)) (mark_of o) e)) ∙ h;
+              }
 
-      both_turn : (n : ℕ) → conjoined (suc n) g.label t.behind ≡ both_on (f (skip s t.behind + 1)) n
-      unfolding both_on conjoined more
-      both_turn n = rw (eq-eqb (byte_at s (skip s t.behind)) 0x26 h, more) refl
+      pub chain_breaks : None ≡ answer_of (part_of o s f (skip s t.behind + 1)) → None ≡ answer_of whole
+      unfolding answer_of after
+      chain_breaks b = let r = turned in sym (ap answer_of (sym r.turn ∙ ap (after r.left) (answer_none _ b)))
 
-      both_left : (k : ℕ) × (g.operands ≡ suc k)
-      both_left = left 0x26 g.operands h (λ z. omega (arith, z)) g.enough
-
-      both_goes : disjoined g.conjunctions g.outer (both_on (f (skip s t.behind + 1)) both_left.0) ≡ whole
-      both_goes =
-          ap (disjoined g.conjunctions g.outer) (sym (ap (λ n. conjoined n g.label t.behind) both_left.1 ∙ both_turn both_left.0)) ∙ g.onward
-
-      pub both_breaks : None ≡ answer_of (f (skip s t.behind + 1)) → None ≡ answer_of whole
-      unfolding answer_of disjoined both_on
-      both_breaks b = ap answer_of (sym (ap (λ x. disjoined g.conjunctions g.outer (both_on x both_left.0)) (answer_none _ b)) ∙ both_goes)
-
-      pub both_joined : (u v : Truth) → Some u ≡ answer_of (f (skip s t.behind + 1)) → t.behind < u.behind → v.mask ≡ bit_and t.mask u.mask
-          → v.behind ≡ u.behind → Joined whole e v
-      unfolding mask_of both_on
-      both_joined u v b l m d =
-          let y = answer_some (f (skip s t.behind + 1)) u b in
+      pub chain_goes_on : (u v : Truth) → Some u ≡ answer_of (part_of o s f (skip s t.behind + 1)) → t.behind < u.behind
+          → v.mask ≡ joined_mask o t.mask u.mask → v.behind ≡ u.behind → Chained whole v
+      unfolding after
+      chain_goes_on u v b h m d =
+          let r = turned in
+          let y = answer_some (part_of o s f (skip s t.behind + 1)) u b in
           record {
-            label = both g.label y.label;
-            mask = m ∙ ap₂ bit_and g.mask y.mask;
-            outer = g.outer;
-            outer_mask = g.outer_mask;
-            operands = both_left.0;
-            enough = omega (arith, g.enough, both_left.1, l, d);
-            conjunctions = g.conjunctions;
-            room = omega (arith, g.room, l, d);
-            onward = ap (λ j. disjoined g.conjunctions g.outer (conjoined both_left.0 (both g.label y.label) j)) d
-                ∙ sym (ap (λ x. disjoined g.conjunctions g.outer (both_on x both_left.0)) y.read) ∙ both_goes;
-          }
-
-    module _ (h : byte_at s (skip s t.behind) ≡ 0x7C) where
-      either_on : Found → ℕ → Found
-      either_on x n = disjoined n (λ L. either (g.outer g.label) L) (begun x)
-
-      either_turn : (n : ℕ) → more s 0x7C either (conjunction s f) (suc n) (g.outer g.label) t.behind ≡ either_on (f (skip s t.behind + 1)) n
-      unfolding either_on disjoined more begun
-      either_turn n = rw (eq-eqb (byte_at s (skip s t.behind)) 0x7C h, more) (ap (disjoined n (λ L. either (g.outer g.label) L)) (begins (skip s t.behind + 1)))
-
-      either_left : (k : ℕ) × (g.conjunctions ≡ suc k)
-      either_left = left 0x7C g.conjunctions h (λ z. omega (arith, z)) g.room
-
-      either_goes : either_on (f (skip s t.behind + 1)) either_left.0 ≡ whole
-      unfolding disjoined
-      either_goes =
-          sym (ap (disjoined g.conjunctions g.outer) (ended g.operands (λ z. omega (arith, h, z)))
-          ∙ ap (λ n. more s 0x7C either (conjunction s f) n (g.outer g.label) t.behind) either_left.1 ∙ either_turn either_left.0) ∙ g.onward
-
-      pub either_breaks : None ≡ answer_of (f (skip s t.behind + 1)) → None ≡ answer_of whole
-      unfolding answer_of disjoined either_on begun
-      either_breaks b = ap answer_of (sym (ap (λ x. either_on x either_left.0) (answer_none _ b)) ∙ either_goes)
-
-      pub either_joined : (u : Truth) → Some u ≡ answer_of (f (skip s t.behind + 1)) → t.behind < u.behind → (n : ℕ) → n ≡ bit_or e t.mask
-          → Joined whole n u
-      unfolding mask_of either_on begun
-      either_joined u b l n m =
-          let y = answer_some (f (skip s t.behind + 1)) u b in
-          record {
-            label = y.label;
-            mask = y.mask;
-            outer = λ L. either (g.outer g.label) L;
-            outer_mask = λ L. ap (λ k. bit_or k (mask_of L)) (g.outer_mask g.label ∙ ap (bit_or e) (sym g.mask) ∙ sym m);
-            operands = length s;
-            enough = omega arith;
-            conjunctions = either_left.0;
-            room = omega (arith, g.room, either_left.1, l);
-            onward = sym (ap (λ x. either_on x either_left.0) y.read) ∙ either_goes;
+            fuel = r.left;
+            label = joined o c.label y.label;
+            mask = m ∙ ap₂ (joined_mask o) c.mask y.mask ∙ sym (mask_joined o c.label y.label);
+            enough = omega (arith, r.room);
+            onward = ap (λ j. more_of r.left (joined o c.label y.label) j) d ∙ sym (ap (after r.left) y.read) ∙ r.turn;
           }
 
 -- Operands.

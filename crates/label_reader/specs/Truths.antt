@@ -1,4 +1,4 @@
--- How the code answers for a label at a place: by its truth on letters 0 to 15 and the place behind it; only contracts between functions name this.
+-- How the code answers for a label at a place: by its truth on letters 0 to 15 and the place behind it; only contracts between functions name these.
 --   answer_of x        what was found, as the code answers
 -- Assumes nothing.
 use Rattle.std.specs.Prelude.{Option, Some, None}

@@ -1,10 +1,10 @@
-// The label of a Hanoi edge, read from a place of the text: its truth on letters 0 to 15, a bit for each, and the place behind it. Disjunctions, operands
-// and parentheses call each other, and less of the text is left at each call.
+// The label of a Hanoi edge, read from a place of the text: its truth on letters 0 to 15, a bit for each, and the place behind it. Disjunctions, conjunctions,
+// operands and parentheses call each other, and less of the text is left at each call.
 #![tactic(auto)]
 
 ghost use Rattle.std.specs.Prelude.{◌≡◌, ◌≤◌, ◌+◌, length, IfSome};
 ghost use Rattle.labels.specs.Labels.{proposition_mask};
-ghost use Rattle.labels.specs.LabelReading.{atom_at, operand_at, disjunction, closed, label_at};
+ghost use Rattle.labels.specs.LabelReading.{atom_at, operand_at, conjunction, disjunction, closed, label_at};
 ghost use Rattle.tokens.specs.Places.{Past};
 ghost use Rattle.label_reader.specs.Truths.{answer_of};
 
@@ -44,89 +44,105 @@ impl Labels<'_> {
         ensures meaning { result ≡ answer_of (atom_at self.now.text.now self.now.propositions at) }
         ensures forward { IfSome result (λ t. Past self.now.text.now (at + 1) t.behind) }
     {
-        match byte_at(self.text, at) {
-            b't' => Some(Truth {
+        let b = byte_at(self.text, at);
+        if b == b't' {
+            return Some(Truth {
                 mask: 0xFFFF,
                 behind: at + 1,
-            }),
-            b'f' => Some(Truth {
+            });
+        }
+        if b == b'f' {
+            return Some(Truth {
                 mask: 0,
                 behind: at + 1,
-            }),
-            _ => {
-                let number = number_at(self.text, at)?;
-                if number.value >= self.propositions {
-                    return None;
-                }
-                Some(Truth {
-                    mask: proposition_mask(number.value),
-                    behind: number.behind,
-                })
-            }
+            });
         }
+        let number = number_at(self.text, at)?;
+        if number.value >= self.propositions {
+            return None;
+        }
+        Some(Truth {
+            mask: proposition_mask(number.value),
+            behind: number.behind,
+        })
     }
 
-    // Operands joined by `&`, and these conjunctions by `|`: `before` has the letters of the conjunctions before the one that `truth` is of.
+    // Conjunctions joined by `|`. A function beside and_at, since a label is read by functions for or, and, not and parentheses, a rule of the project.
     #[cycle(label)]
-    fn disjunction_at(&self, at: usize, depth: usize) -> Option<Truth>
+    fn or_at(&self, at: usize, depth: usize) -> Option<Truth>
         requires { at ≤ length self.now.text.now }
         ensures meaning { result ≡ answer_of (disjunction self.now.text.now (operand_at self.now.text.now self.now.propositions depth) at) }
         ensures forward { IfSome result (λ t. Past self.now.text.now (at + 1) t.behind) }
     {
-        let mut truth = self.operand_at(at, depth)?;
-        let mut before = 0;
+        let mut truth = self.and_at(at, depth)?;
         loop {
             let j = skip(self.text, truth.behind);
-            match byte_at(self.text, j) {
-                b'&' => {
-                    let next = self.operand_at(j + 1, depth)?;
-                    truth = Truth {
-                        mask: truth.mask & next.mask,
-                        behind: next.behind,
-                    };
-                }
-                b'|' => {
-                    before |= truth.mask;
-                    truth = self.operand_at(j + 1, depth)?;
-                }
-                _ => return Some(Truth {
-                    mask: before | truth.mask,
-                    behind: truth.behind,
-                }),
+            if byte_at(self.text, j) != b'|' {
+                return Some(truth);
             }
+            let next = self.and_at(j + 1, depth)?;
+            truth = Truth {
+                mask: truth.mask | next.mask,
+                behind: next.behind,
+            };
+        }
+    }
+
+    // Operands joined by `&`.
+    #[cycle(label)]
+    fn and_at(&self, at: usize, depth: usize) -> Option<Truth>
+        requires { at ≤ length self.now.text.now }
+        ensures meaning { result ≡ answer_of (conjunction self.now.text.now (operand_at self.now.text.now self.now.propositions depth) at) }
+        ensures forward { IfSome result (λ t. Past self.now.text.now (at + 1) t.behind) }
+    {
+        let mut truth = self.not_at(at, depth)?;
+        loop {
+            let j = skip(self.text, truth.behind);
+            if byte_at(self.text, j) != b'&' {
+                return Some(truth);
+            }
+            let next = self.not_at(j + 1, depth)?;
+            truth = Truth {
+                mask: truth.mask & next.mask,
+                behind: next.behind,
+            };
         }
     }
 
     // An operand: a negation, a parenthesis, t, f or a proposition; `depth` more `!` and parentheses may open in it.
     #[cycle(label)]
     #[tactic(auto, using(crate::proofs::ReadTruths::operand_steps))]
-    fn operand_at(&self, at: usize, depth: usize) -> Option<Truth>
+    fn not_at(&self, at: usize, depth: usize) -> Option<Truth>
         requires { at ≤ length self.now.text.now }
         ensures meaning { result ≡ answer_of (operand_at self.now.text.now self.now.propositions depth at) }
         ensures forward { IfSome result (λ t. Past self.now.text.now (at + 1) t.behind) }
     {
         let j = skip(self.text, at);
-        match byte_at(self.text, j) {
-            b'!' if depth > 0 => {
-                let negated = self.operand_at(j + 1, depth - 1)?;
-                Some(Truth {
-                    mask: !negated.mask,
-                    behind: negated.behind,
-                })
-            }
-            b'(' if depth > 0 => self.parenthesis_at(j + 1, depth - 1),
-            _ => self.atom_at(j),
+        if depth == 0 {
+            return self.atom_at(j);
         }
+        let b = byte_at(self.text, j);
+        if b == b'!' {
+            let negated = self.not_at(j + 1, depth - 1)?;
+            return Some(Truth {
+                mask: !negated.mask,
+                behind: negated.behind,
+            });
+        }
+        if b == b'(' {
+            return self.paren_at(j + 1, depth - 1);
+        }
+        self.atom_at(j)
     }
 
     // The label behind an opened parenthesis, and the closing one.
     #[cycle(label)]
-    fn parenthesis_at(&self, at: usize, depth: usize) -> Option<Truth>
+    fn paren_at(&self, at: usize, depth: usize) -> Option<Truth>
         requires { at ≤ length self.now.text.now }
         ensures meaning { result ≡ answer_of (closed self.now.text.now (disjunction self.now.text.now (operand_at self.now.text.now self.now.propositions depth) at)) }
         ensures forward { IfSome result (λ t. Past self.now.text.now (at + 1) t.behind) }
     {
-        let label = self.disjunction_at(at, depth)?;
+        let label = self.or_at(at, depth)?;
         let j = skip(self.text, label.behind);
         if byte_at(self.text, j) != b')' {
             return None;
@@ -146,5 +162,5 @@ pub fn label_at(text: &[u8], at: usize, propositions: usize) -> Option<Truth>
     ensures forward { IfSome result (λ t. Past text.now (at + 1) t.behind) }
 {
     let labels = Labels { text, propositions };
-    labels.disjunction_at(at, 64)
+    labels.or_at(at, 64)
 }
