@@ -192,9 +192,11 @@ filled_more t t' values ys g k l h e n m d =
         ap (λ (vs : List ℕ). union_of vs 4 (j % 16)) (drop-drop (j / 16 * 4) (g * 4) values)
         ∙ ap₂ (λ (x y : ℕ). union_of (drop x values) 4 y) d r
 
--- what is filled are unions
-pub filled_unions : (t t' values : List ℕ) (groups : ℕ) → groups * 16 ≤ length t → t' ≡ filled t values groups → Unions t' values groups
-filled_unions t t' values groups fits e = subst (λ (x : List ℕ). Unions x values groups) (sym e) entries
+-- what is filled are unions, and the entries behind stay
+pub filled_unions : (t t' values : List ℕ) (groups : ℕ) → groups * 16 ≤ length t → t' ≡ filled t values groups
+    → Unions t' values groups × SameElsewhere 0 (groups * 16) t t'
+filled_unions t t' values groups fits e =
+    subst (λ (x : List ℕ). Unions x values groups × SameElsewhere 0 (groups * 16) t x) (sym e) (entries, changed_kept 0 (groups * 16) union t (omega arith))
   where
     union : ℕ → ℕ
     union j = union_of (drop (j / 16 * 4) values) 4 (j % 16)

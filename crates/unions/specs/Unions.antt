@@ -7,8 +7,8 @@
 --   groups_for n                how many groups n values are held in: 2, 4 or 8
 --   doubled entries n v         the first n entries followed by the same with the members of v besides, the others as they are
 --   filled table values g       the table with the unions of the choices of g groups of four values, group after group from its front
--- Shown by `filled_unions` and `named_chosen`: what is filled are unions, and there the entries that a word names have together what the
--- word chooses. Assumes nothing.
+-- Shown by `filled_unions` and `named_chosen`: what is filled are unions, and the entries behind stay; of a table of unions, the entries that a word names
+-- have together what the word chooses. Assumes nothing.
 use Rattle.std.specs.Prelude.{◌≡◌, Bool, true, false, ◌&&◌, List, ℕ, zero, suc, ◌+◌, ◌*◌, ◌/◌, ◌%◌, ◌^◌, ◌<◌, ltb, get_or, drop}
 use Rattle.std.specs.Int.Bits.{bit_or}
 use Rattle.automaton.specs.Ranges.{some}

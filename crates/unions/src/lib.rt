@@ -2,13 +2,11 @@
 // them, so the union of the sets that a word chooses takes one entry for every four bits of the word. A set is a word of 64 bits.
 #![tactic(auto)]
 
-ghost use Rattle.std.specs.Prelude.{◌≡◌, ℕ, ◌+◌, ◌≤◌, length};
+ghost use Rattle.std.specs.Prelude.{◌≡◌, ℕ, ◌+◌, ◌*◌, ◌≤◌, length};
 ghost use Rattle.automaton.specs.Sets.{bit};
 ghost use Rattle.unions.specs.Unions.{named, groups_for, doubled, filled, Unions};
 
-use automaton::MAX_STATES;
-
-// The entries of a table: 16 for every four of 32 values.
+// The entries of a table for 32 values: 16 for every four of them.
 pub const ENTRIES: usize = 128;
 
 // The first `size` entries are followed by the same entries with the value besides; the others stay.
@@ -34,7 +32,7 @@ fn fill_four(entries: &mut [u64], values: &[u64])
 }
 
 // The number of groups of four that n values are held in.
-fn groups_for(n: usize) -> usize
+pub fn groups_for(n: usize) -> usize
     ensures groups { result ≡ groups_for n }
     ensures few { result ≤ 8 }
 {
@@ -47,12 +45,13 @@ fn groups_for(n: usize) -> usize
     }
 }
 
-// The entries become the unions of the choices of the values, in the groups of four that n values are held in; the others stay.
-pub fn fill(table: &mut [u64; ENTRIES], values: &[u64; MAX_STATES], n: usize)
-    ensures filled { table.new ≡ filled table.old values.now (groups_for n) }
-    ensures unions { Unions table.new values.now (groups_for n) }
+// The entries become the unions of the choices of so many groups of four values, group after group; the entries behind stay.
+pub fn fill(table: &mut [u64], values: &[u64], groups: usize)
+    requires { (groups ≤ 8) × (groups * 16 ≤ length table.old) × (groups * 4 ≤ length values.now) }
+    ensures filled { table.new ≡ filled table.old values.now groups }
+    ensures unions { Unions table.new values.now groups }
 {
-    for g in 0..groups_for(n) {
+    for g in 0..groups {
         fill_four(&mut table[g * 16..], &values[g * 4..]);
     }
 }
@@ -83,7 +82,8 @@ fn union_eight(table: &[u64], choice: u64) -> u64
 
 // The union of the entries that the bits of the word name, in the groups that n values are held in; in a table of unions, the union of the
 // values that the word chooses. Without a loop and so a function for each number of groups, since it stands in the innermost loops.
-pub fn union(table: &[u64; ENTRIES], n: usize, choice: u64) -> u64
+pub fn union(table: &[u64], n: usize, choice: u64) -> u64
+    requires { 128 ≤ length table.now }
     ensures { (q : ℕ) → bit result q ≡ named table.now (groups_for n) choice q }
 {
     if n <= 8 {

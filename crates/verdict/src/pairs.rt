@@ -63,7 +63,8 @@ fn join_pairs(
     }
 }
 
-// The states' pairs for a word with the letter in front; `after` and `table` are room to work in.
+// The states' pairs for a word with the letter in front. `after` and `table` are room to work in, which no heap gives: lent, it is made once
+// for all letters.
 fn prepend_letter(
     valid: Valid,
     letter: u8,
@@ -74,7 +75,7 @@ fn prepend_letter(
     ensures { let A = valid.entry.automaton.now in (v : List ℕ) → PairsOf A v pairs.old → PairsOf A (letter ∷ v) pairs.new }
 {
     met_pairs(valid, pairs, after);
-    unions::fill(table, after, valid.automaton.states);
+    unions::fill(table, after, unions::groups_for(valid.automaton.states));
     join_pairs(valid, letter, table, pairs);
 }
 

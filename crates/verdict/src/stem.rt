@@ -61,12 +61,9 @@ fn letter_unions(valid: Valid, tables: &mut [[u64; unions::ENTRIES]; MAX_LETTERS
     ensures { HeldUnions valid.entry.automaton.now tables.new }
 {
     let automaton = valid.automaton;
+    let groups = unions::groups_for(automaton.states);
     for a in 0..automaton.letters {
-        unions::fill(
-            &mut tables[a],
-            &letter_targets(automaton, a),
-            automaton.states,
-        );
+        unions::fill(&mut tables[a], &letter_targets(automaton, a), groups);
     }
 }
 

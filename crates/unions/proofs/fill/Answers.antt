@@ -2,7 +2,7 @@
 use mathlib.Core.Path.{◌≡◌, ap, ◌∙◌}
 use native.Mathlib.Omega.{arith}
 use Rattle.unions.proofs.UnionTables.{filled_none, filled_more, filled_unions}
-use Rattle.unions.specs.Unions.{groups_for, filled}
+use Rattle.unions.specs.Unions.{filled}
 use Rattle.unions.proofs.fill.Goals as goal
 
 pub loop-g-init : goal.loop-g-init
@@ -16,8 +16,6 @@ loop-g-preserved c =
 pub returns-clause-unions : goal.returns-clause-unions
 returns-clause-unions c =
     let l = c.loop-g in
-    let groups = c.groups_for-g-end.ensures.groups in
-    let few = c.groups_for-g-end.ensures.few in
-    let e : l.g ≡ groups_for c.args.n = omega arith in
-    filled_unions c.args.table.now l.table c.args.values.now (groups_for c.args.n) (omega arith)
-    (l.invariant ∙ ap (filled c.args.table.now c.args.values.now) e)
+    let a = c.args in
+    let e : l.g ≡ a.groups = omega arith in
+    (filled_unions a.table.now l.table a.values.now a.groups (omega arith) (l.invariant ∙ ap (filled a.table.now a.values.now) e)).0
