@@ -1,5 +1,5 @@
 -- Numbers of any length, held as 1,000 at most: a larger value stays at 1,000 whatever digits follow. Assumes nothing.
-use mathlib.Core.Path.{◌≡◌, refl, sym, ap, ap₂, ◌∙◌}
+use mathlib.Core.Path.{◌≡◌, refl, sym, ap, ◌∙◌}
 use mathlib.Core.Bool.{Bool, true, false}
 use mathlib.Core.List.{List, [], ◌∷◌}
 use Prim.Native.Nat.{ℕ, suc, ◌+◌, ◌-◌, ◌*◌, ◌≤◌, ◌<◌, min}
@@ -8,11 +8,7 @@ use lib.Dec.{ltb}
 use lib.ListN.{length, get_or, drop, drop_of_length-le}
 use lib.Seq.{drop-cons}
 use borrow.Author.Tests.{ltb-true, ltb-false}
-use Rattle.tokens.proofs.Runs.{digits_here}
-use Rattle.std.specs.Prelude.{Some}
-use Rattle.tokens.specs.declared.Numeral.{Numeral}
-use Rattle.tokens.specs.Tokens.{digits_at, digit, digits, value}
-use Rattle.tokens.specs.Places.{capped}
+use Rattle.tokens.specs.Tokens.{digit, value}
 
 pub cap_value : (t : List ℕ) (v : ℕ) → min (value v t) 1000 ≡ min (value (min v 1000) t) 1000
 unfolding value
@@ -46,19 +42,13 @@ module _ (s : List ℕ) (j : ℕ) where
           ∙ ap (λ (c : Bool). elim c [ true ↦ value (10 * v + (get_or s j 0 - 0x30)) (drop (suc j) s) | false ↦ v ]) e
       by false h = ap (value v) (drop_of_length-le s (ltb-false j (length s) h))
 
--- the loop over the digits: it ends with the whole number, or goes on with one digit more
-pub digits_ended : (s : List ℕ) (i : ℕ) (n : Numeral) → min (value 0 (drop i s)) 1000 ≡ min (value n.value (drop n.behind s)) 1000
-    → i + digits (drop i s) ≡ n.behind + digits (drop n.behind s) → n.value ≤ 1000 → digit (get_or s n.behind 0) ≡ false
-    → Some n ≡ capped (digits_at s i)
-digits_ended s i n a b h e =
-    let x = value_stop s n.behind n.value e in
-    let y = digits_here s n.behind e in
-    let held : ℕ → ℕ → Numeral = λ v j. record { value = v; behind = j } in
-    ap Some (ap₂ held (omega (arith, a, x)) (omega (arith, b, y)))
+-- the loop over the digits: it ends with the whole value and number of them, or goes on with one digit more
+module _ (s : List ℕ) (v j : ℕ) (a : min (value 0 s) 1000 ≡ min (value v (drop j s)) 1000) where
+  pub digits_value : v ≤ 1000 → digit (get_or s j 0) ≡ false → v ≡ min (value 0 s) 1000
+  digits_value h e = let x = value_stop s j v e in omega (arith, a, x, h)
 
-pub digit_taken : (s : List ℕ) (i v j w : ℕ) → min (value 0 (drop i s)) 1000 ≡ min (value v (drop j s)) 1000 → j < length s
-    → digit (get_or s j 0) ≡ true → w ≡ min (10 * v + (get_or s j 0 - 0x30)) 1000
-    → min (value 0 (drop i s)) 1000 ≡ min (value w (drop (j + 1) s)) 1000
-digit_taken s i v j w a h e q =
-    a ∙ ap (λ (x : ℕ). min x 1000) (value_more s j v h e) ∙ cap_value (drop (j + 1) s) (10 * v + (get_or s j 0 - 0x30))
-    ∙ ap (λ (x : ℕ). min (value x (drop (j + 1) s)) 1000) (sym q)
+  pub digit_taken : (w : ℕ) → j < length s → digit (get_or s j 0) ≡ true → w ≡ min (10 * v + (get_or s j 0 - 0x30)) 1000
+      → min (value 0 s) 1000 ≡ min (value w (drop (j + 1) s)) 1000
+  digit_taken w h e q =
+      a ∙ ap (λ (x : ℕ). min x 1000) (value_more s j v h e) ∙ cap_value (drop (j + 1) s) (10 * v + (get_or s j 0 - 0x30))
+      ∙ ap (λ (x : ℕ). min (value x (drop (j + 1) s)) 1000) (sym q)

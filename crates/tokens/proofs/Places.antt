@@ -1,18 +1,20 @@
 -- Tokens, numbers and names at a place, as the code comes to them: by the place past white space. Assumes nothing.
-use mathlib.Core.Path.{◌≡◌, refl, sym, ap, ap₂}
+use mathlib.Core.Path.{◌≡◌, refl, sym, ap, ap₂, ◌∙◌}
 use mathlib.Core.Bool.{Bool, true, false, ◌&&◌, not}
 use mathlib.Core.List.{List, [], ◌∷◌}
-use Prim.Native.Nat.{ℕ, ◌+◌}
+use Prim.Native.Nat.{ℕ, ◌+◌, ◌≤◌, min}
 use native.Mathlib.Omega.{arith}
 use lib.Dec.{eqb}
+use borrow.Author.Tests.{eq-eqb, ne_eqb}
 use lib.ListN.{length, drop, take}
 use Rattle.std.specs.Cmp.Lexicographic.{pointwise}
 use Rattle.std.proofs.lemmas.List.{take_rest}
 use Rattle.tokens.proofs.Words.{starts_with_lem}
+use Rattle.tokens.proofs.Runs.{byte_within, digits_on, skip_from}
 use Rattle.std.specs.Prelude.{Some, None}
 use Rattle.std.specs.Bool.{then_some}
-use Rattle.tokens.specs.Tokens.{digits_at, byte_at, skip, touches, starts_with, stands, behind, digit, Number, none, number_at, name_bytes}
-use Rattle.tokens.specs.Places.{token_at, name_from, name_at, capped}
+use Rattle.tokens.specs.Tokens.{digits_at, byte_at, skip, touches, starts_with, stands, behind, digit, digits, value, Number, none, number_at, name_bytes}
+use Rattle.tokens.specs.Places.{token_at, mark_at, name_from, name_at, capped}
 
 -- A token.
 
@@ -22,13 +24,29 @@ module _ (w s : List ℕ) (i : ℕ) where
   token_lem true e = ap (λ x. elim x [ true ↦ Some (behind w s i) | false ↦ None ]) (sym e)
   token_lem false e = ap (λ x. elim x [ true ↦ Some (behind w s i) | false ↦ None ]) (sym e)
 
+  pub token_apart : pointwise eqb w (take (length w) (drop (skip s i) s)) ≡ false → None ≡ token_at w s i
+  token_apart e = token_lem false (ap (λ x. x && not (touches s (skip s i))) (sym (starts_with_lem w (drop (skip s i) s)) ∙ e))
+
   pub token_touches : touches s (skip s i) ≡ true → None ≡ token_at w s i
   token_touches t = token_lem false (grind (arith, t))
 
-  pub token_read : touches s (skip s i) ≡ false → then_some (pointwise eqb w (take (length w) (drop (skip s i) s))) (behind w s i) ≡ token_at w s i
-  token_read t = rw starts_with_lem (token_lem _ (grind (arith, t)))
+  pub token_stands : pointwise eqb w (take (length w) (drop (skip s i) s)) ≡ true → touches s (skip s i) ≡ false → Some (behind w s i) ≡ token_at w s i
+  token_stands e t = token_lem true (ap₂ (λ x y. x && not y) (sym (starts_with_lem w (drop (skip s i) s)) ∙ e) t)
 
-pub ruleset token_steps = (token_touches, token_read, take_rest)
+pub ruleset token_steps = (token_apart, token_touches, token_stands, take_rest)
+
+-- A byte.
+
+module _ (b : ℕ) (s : List ℕ) (i : ℕ) where
+  pub mark_apart : (byte_at s (skip s i) ≡ b → ⊥) → None ≡ mark_at b s i
+  unfolding mark_at
+  mark_apart n = rw (mark_at, ne_eqb (byte_at s (skip s i)) b n) refl
+
+  pub mark_stands : byte_at s (skip s i) ≡ b → Some (skip s i + 1) ≡ mark_at b s i
+  unfolding mark_at
+  mark_stands e = rw (mark_at, eq-eqb (byte_at s (skip s i)) b e) refl
+
+pub ruleset mark_steps = (mark_apart, mark_stands, byte_within)
 
 -- A number.
 
@@ -48,18 +66,29 @@ module _ (s : List ℕ) (i : ℕ) where
   number_zero a b = ap capped (number_lem true true a b)
 
   pub number_read : digit (byte_at s (skip s i)) ≡ true → (eqb (byte_at s (skip s i)) 0x30 && digit (byte_at s (skip s i + 1))) ≡ false
-      → capped (digits_at s (skip s i)) ≡ capped (number_at s i)
-  number_read a b = ap capped (number_lem true false a b)
+      → (v n : ℕ) → v ≡ min (value 0 (drop (skip s i) s)) 1000 → n ≡ digits (drop (skip s i) s) → Some (v, skip s i + n) ≡ capped (number_at s i)
+  number_read a b v n e f =
+      let held : ℕ → ℕ → ℕ × ℕ = λ v n. (v, skip s i + n) in
+      ap Some (ap₂ held e f) ∙ ap capped (number_lem true false a b)
 
-pub ruleset number_steps = (number_missing, number_zero, number_read)
+  pub number_forward : digit (byte_at s (skip s i)) ≡ true → (n : ℕ) → n ≡ digits (drop (skip s i) s) → i + 1 ≤ skip s i + n
+  number_forward a n f = omega (arith, f, digits_on s (skip s i) a, skip_from s i)
+
+pub ruleset number_steps = (number_missing, number_zero, number_read, number_forward, take_rest)
 
 -- A name, whose bytes begin at place j.
 
-pub name_lem : (s : List ℕ) (i j : ℕ) → token_at (0x22 ∷ []) s i ≡ Some j
-    → then_some (eqb (byte_at s (j + name_bytes (drop j s))) 0x22) (j + name_bytes (drop j s) + 1) ≡ name_at s i
-unfolding name_from
-name_lem s i j e = rw e (by (eqb (byte_at s (j + name_bytes (drop j s))) 0x22))
-  where
-    by : (b : Bool) → then_some b (j + name_bytes (drop j s) + 1) ≡ elim b [ true ↦ Some (j + name_bytes (drop j s) + 1) | false ↦ None ]
-    by true = refl
-    by false = refl
+module _ (s : List ℕ) (i : ℕ) where
+  pub name_missing : None ≡ token_at (0x22 ∷ []) s i → None ≡ name_at s i
+  name_missing e = rw (← e) refl
+
+  module _ (j : ℕ) (e : Some j ≡ token_at (0x22 ∷ []) s i) where
+    pub name_open : (byte_at s (j + name_bytes (drop j s)) ≡ 0x22 → ⊥) → None ≡ name_at s i
+    unfolding name_from
+    name_open n = rw (← e, name_from, ne_eqb (byte_at s (j + name_bytes (drop j s))) 0x22 n) refl
+
+    pub name_closed : byte_at s (j + name_bytes (drop j s)) ≡ 0x22 → Some (j + name_bytes (drop j s) + 1) ≡ name_at s i
+    unfolding name_from
+    name_closed q = rw (← e, name_from, eq-eqb (byte_at s (j + name_bytes (drop j s))) 0x22 q) refl
+
+pub ruleset name_steps = (name_missing, name_open, name_closed, byte_within, take_rest)

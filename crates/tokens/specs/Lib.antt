@@ -3,3 +3,4 @@ pub mod Spelled
 pub mod Tokens
 pub mod Lexical
 pub mod Places
+pub mod Scanners

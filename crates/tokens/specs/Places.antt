@@ -1,16 +1,19 @@
--- How the code answers for a token, a number or a name at a place; only contracts between functions name these. A number is held as 1,000 at most:
--- every limit that it is compared with is below, and a larger one is outside all of them whatever its digits are.
+-- What stands at a place, and the place behind it; only contracts between functions name these. A number is held as 1,000 at most: every limit that it is
+-- compared with is below, and a larger one is outside all of them whatever its digits are.
 --   token_at w s i   the place behind the token with the bytes w at place i, if it stands there
---   name_at s i       the place behind the quoted name at place i, if one stands there
---   capped n         a number as the code holds it
+--   mark_at b s i    the same of the byte b, which may touch what is before it
+--   name_at s i      the place behind the quoted name at place i, if one stands there
+--   capped n         a number as the code holds it, and the place behind it
 --   Past s i j       place j is i or later, and in the text s or at its end
 -- Assumes nothing.
 use Rattle.std.specs.Prelude.{true, false, List, [], ◌∷◌, ℕ, ◌+◌, ◌≤◌, min, eqb, length, drop, Option, Some, None, option_and_then}
-use Rattle.tokens.specs.declared.Numeral.{Numeral}
-use Rattle.tokens.specs.Tokens.{byte_at, stands, behind, Number, none, number, name_bytes}
+use Rattle.tokens.specs.Tokens.{byte_at, skip, stands, behind, Number, none, number, name_bytes}
 
 unfoldable pub token_at : List ℕ → List ℕ → ℕ → Option ℕ
 token_at w s i = elim (stands w s i) [ true ↦ Some (behind w s i) | false ↦ None ]
+
+unfoldable pub mark_at : ℕ → List ℕ → ℕ → Option ℕ
+mark_at b s i = elim (eqb (byte_at s (skip s i)) b) [ true ↦ Some (skip s i + 1) | false ↦ None ]
 
 -- the name's bytes begin at place j
 unfoldable pub name_from : List ℕ → ℕ → Option ℕ
@@ -20,9 +23,9 @@ name_from s j =
 abbrev pub name_at : List ℕ → ℕ → Option ℕ
 name_at s i = option_and_then (name_from s) (token_at (0x22 ∷ []) s i)
 
-abbrev pub capped : Number → Option Numeral
+abbrev pub capped : Number → Option (ℕ × ℕ)
 capped none = None
-capped (number v j) = Some (record { value = min v 1000; behind = j })
+capped (number v j) = Some (min v 1000, j)
 
 abbrev pub Past : List ℕ → ℕ → ℕ → Type 0
 Past s i j = (i ≤ j) × (j ≤ length s)

@@ -1,32 +1,25 @@
-// The tokens of a Hanoi text, read at a place: words and marks, numbers of any length, quoted names. White space may stand before each.
+// The tokens of a Hanoi text, taken one after another from its front on: words and marks, numbers of any length, quoted names. White space may stand before each.
 #![tactic(auto)]
 
-ghost use Rattle.std.specs.Prelude.{◌≡◌, true, ◌≤◌, ◌+◌, ◌*◌, ◌-◌, min, length, drop, Some, IfSome};
-ghost use Rattle.tokens.specs.Tokens.{
-  white,
-  digit,
-  name_byte,
-  byte_at,
-  skip,
-  touches,
-  digits_at,
-  number_at,
-  name_bytes,
-};
-ghost use Rattle.tokens.specs.Places.{token_at, name_at, capped, Past};
+ghost use Rattle.std.specs.Prelude.{◌≡◌, true, ◌≤◌, ◌+◌, ◌*◌, ◌-◌, min, length};
+ghost use Rattle.tokens.specs.Tokens.{white, whites, digit, digits, value, name_byte, name_bytes, byte_at, touches};
 
-// A number at a place: its value, 1,000 where it is that or more, and the place behind it.
-#[derive(Clone, Copy)]
-pub struct Numeral {
-    pub value: usize,
-    pub behind: usize,
-}
+mod scanner;
+
+pub use scanner::Scanner;
 
 // Whether a byte is white space.
 fn is_white(b: u8) -> bool
     ensures { result ≡ white b }
 {
     matches!(b, b' ' | b'\t' | b'\n' | b'\r')
+}
+
+// The number of bytes of white space in front.
+fn whites(text: &[u8]) -> usize
+    ensures { (result ≡ whites text.now) × (result ≤ length text.now) }
+{
+    text.iter().take_while(|b| is_white(**b)).count()
 }
 
 // Whether a byte may stand in a quoted name.
@@ -36,19 +29,18 @@ fn is_name_byte(b: u8) -> bool
     matches!(b, b' '..=b'~') && b != b'"' && b != b'\\'
 }
 
+// The number of bytes in front that a quoted name may hold. The same as `whites` but for the test, which a contract over a closure would name no plainer.
+fn name_bytes(text: &[u8]) -> usize
+    ensures { (result ≡ name_bytes text.now) × (result ≤ length text.now) }
+{
+    text.iter().take_while(|b| is_name_byte(**b)).count()
+}
+
 // The byte at a place; 0 at the end.
 pub fn byte_at(text: &[u8], j: usize) -> u8
     ensures { result ≡ byte_at text.now j }
 {
     text.get(j).copied().unwrap_or(0)
-}
-
-// The first place from `at` on that holds no white space.
-pub fn skip(text: &[u8], at: usize) -> usize
-    requires { at ≤ length text.now }
-    ensures { (result ≡ skip text.now at) × (at ≤ result) × (result ≤ length text.now) }
-{
-    at + text[at..].iter().take_while(|b| is_white(**b)).count()
 }
 
 // Whether the byte at a place and the one before it are letters or digits.
@@ -60,18 +52,6 @@ fn touches(text: &[u8], j: usize) -> bool
         && byte_at(text, j).is_ascii_alphanumeric()
 }
 
-// The place behind the token that the word spells, if it stands at a place.
-#[tactic(auto, using(crate::proofs::Places::token_steps))]
-pub fn token(text: &[u8], at: usize, word: &[u8]) -> Option<usize>
-    requires { at ≤ length text.now }
-    ensures meaning { result ≡ token_at word.now text.now at }
-    ensures within { IfSome result (Past text.now (at + length word.now)) }
-{
-    let j = skip(text, at);
-    let stands = text[j..].starts_with(word) && !touches(text, j);
-    stands.then_some(j + word.len())
-}
-
 // The value with one digit more behind it, at most 1,000.
 fn with_digit(v: usize, b: u8) -> usize
     requires { (v ≤ 1000) × (digit b ≡ true) }
@@ -80,60 +60,17 @@ fn with_digit(v: usize, b: u8) -> usize
     (10 * v + usize::from(b - b'0')).min(1000)
 }
 
-// The digits from a place on.
-fn digits_at(text: &[u8], at: usize) -> Numeral
-    requires { at ≤ length text.now }
-    ensures meaning { Some result ≡ capped (digits_at text.now at) }
-    ensures within { Past text.now at result.behind }
+// The value of the digits in front, at most 1,000, and their number.
+fn digits(text: &[u8]) -> (usize, usize)
+    ensures value { result.0 ≡ min (value 0 text.now) 1000 }
+    ensures count { (result.1 ≡ digits text.now) × (result.1 ≤ length text.now) }
 {
     let mut value = 0;
-    for j in at..text.len() {
-        let b = text[j];
-        if !b.is_ascii_digit() {
-            return Numeral { value, behind: j };
+    for j in 0..text.len() {
+        if !text[j].is_ascii_digit() {
+            return (value, j);
         }
-        value = with_digit(value, b);
+        value = with_digit(value, text[j]);
     }
-    Numeral {
-        value,
-        behind: text.len(),
-    }
-}
-
-// The number at a place.
-#[tactic(auto, using(crate::proofs::Places::number_steps))]
-pub fn number_at(text: &[u8], at: usize) -> Option<Numeral>
-    requires { at ≤ length text.now }
-    ensures meaning { result ≡ capped (number_at text.now at) }
-    ensures within { IfSome result (λ n. Past text.now (at + 1) n.behind) }
-{
-    let j = skip(text, at);
-    let first = byte_at(text, j);
-    if !first.is_ascii_digit() {
-        return None;
-    }
-    if (first == b'0') & byte_at(text, j + 1).is_ascii_digit() {
-        return None;
-    }
-    Some(digits_at(text, j))
-}
-
-// The first place from `at` on that holds no byte of a name.
-fn name_end(text: &[u8], at: usize) -> usize
-    requires { at ≤ length text.now }
-    ensures { (result ≡ at + name_bytes (drop at text.now)) × (at ≤ result) × (result ≤ length text.now) }
-{
-    at + text[at..].iter().take_while(|b| is_name_byte(**b)).count()
-}
-
-// The place behind the quoted name at a place.
-#[tactic(auto, using(crate::proofs::Places::name_lem))]
-pub fn name_at(text: &[u8], at: usize) -> Option<usize>
-    requires { at ≤ length text.now }
-    ensures meaning { result ≡ name_at text.now at }
-    ensures within { IfSome result (Past text.now at) }
-{
-    let first = token(text, at, b"\"")?;
-    let end = name_end(text, first);
-    (byte_at(text, end) == b'"').then_some(end + 1)
+    (value, text.len())
 }
