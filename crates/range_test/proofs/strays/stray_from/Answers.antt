@@ -1,13 +1,11 @@
--- `stray_from` meets its contract. Assumes nothing.
-use mathlib.Core.Path.{refl}
-use Prim.Native.Nat.{ℕ}
-use Rattle.std.proofs.Common.{rules, tests}
-use Rattle.automaton.specs.Automata.{stray_transition}
-use Rattle.automaton.specs.Ranges.{some}
-use Rattle.relations.proofs.Calls.{some_from_any}
+-- `stray_from` meets its contract, letter by letter. Assumes nothing.
+use mathlib.Core.Path.{sym, ap₂, ◌∙◌}
+use mathlib.Core.Bool.{◌||◌}
+use Rattle.relations.proofs.Rows.{some_none, some_more}
 use Rattle.range_test.proofs.strays.stray_from.Goals as goal
 
-pub returns : goal.returns
-returns c =
-    some_from_any (λ (a : ℕ). some (stray_transition c.args.automaton.now c.args.q a) 32 0) 0 16 16 _ _ _ c.any.ensures.ran refl refl
-    (λ x b q k. search (rules, tests))
+pub loop-a-init : goal.loop-a-init
+loop-a-init c = sym (some_none _)
+
+pub loop-a-preserved : goal.loop-a-preserved
+loop-a-preserved c = ap₂ ◌||◌ c.loop-a.invariant c.stray_on-found.ensures ∙ sym (some_more _ c.loop-a.a)
