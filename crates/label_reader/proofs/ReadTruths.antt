@@ -11,40 +11,41 @@ use lib.ListN.{length, get_or}
 use borrow.Author.Tests.{eq-eqb, ne_eqb, lt-ltb, le-ltb}
 use Rattle.std.specs.Prelude.{Some, None}
 use Rattle.std.proofs.lemmas.Option.{none-some, same_Some}
-use Rattle.tokens.specs.declared.Numeral.{Numeral}
-use Rattle.tokens.specs.Tokens.{byte_at, skip, Number, none, number}
-use Rattle.tokens.specs.Places.{capped}
+use Rattle.tokens.specs.Tokens.{byte_at, skip, Number, none, number, number_at}
+use Rattle.tokens.specs.Places.{mark_at, capped}
+use Rattle.tokens.specs.declared.scanner.Scanner.{Scanner}
+use Rattle.tokens.specs.Scanners.{Ahead, Moved}
 use Rattle.tokens.proofs.Runs.{skip_end, byte_past}
-use Rattle.labels.specs.Labels.{Label, both, either, proposition, negation, proposition_mask, mask_of}
-use Rattle.labels.specs.LabelReading.{Found, absent, found, proposition_of, negated, closed, more, chain, conjunction, disjunction}
-use Rattle.labels.proofs.LabelSteps.{operand_bare, operand_bang, operand_paren, operand_atom}
-use Rattle.label_reader.specs.declared.Truth.{Truth}
+use Rattle.tokens.proofs.Places.{mark_missed, mark_taken}
+use Rattle.labels.specs.Labels.{Label, always, never, both, either, proposition, negation, proposition_mask, mask_of}
+use Rattle.labels.specs.LabelReading.{Found, absent, found, proposition_of, atom_at, operand_at, negated, closed, more, chain, conjunction, disjunction}
+use Rattle.labels.proofs.LabelSteps.{operand_bare, operand_bang, operand_paren, operand_atom, atom_t, atom_f, atom_other, number_skip}
 use Rattle.label_reader.specs.Truths.{answer_of}
 
 -- What an answer says of what was read.
 
-pub record Reads (x : Found) (t : Truth) : Type 0 where
+pub record Reads (x : Found) (m j : ℕ) : Type 0 where
   pub label : Label
-  pub read : x ≡ found label t.behind
-  pub mask : t.mask ≡ mask_of label
+  pub read : x ≡ found label j
+  pub mask : m ≡ mask_of label
 
-pub answer_some : (x : Found) (t : Truth) → Some t ≡ answer_of x → Reads x t
+pub answer_some : (x : Found) (m j : ℕ) → Some (m, j) ≡ answer_of x → Reads x m j
 unfolding answer_of
-answer_some absent t e = absurd (none-some t (sym e))
-answer_some (found L i) t e =
+answer_some absent m j e = absurd (none-some (m, j) (sym e))
+answer_some (found L i) m j e =
     let h = same_Some _ _ e in
-    record { label = L; read = ap (found L) (sym (ap (λ x. x.behind) h)); mask = ap (λ x. x.mask) h }
+    record { label = L; read = ap (found L) (sym (ap (λ x. x.1) h)); mask = ap (λ x. x.0) h }
 
 pub answer_none : (x : Found) → None ≡ answer_of x → x ≡ absent
 unfolding answer_of
 answer_none absent e = refl
 answer_none (found L i) e = absurd (none-some _ e)
 
-pub found_answer : (L : Label) (j : ℕ) (t : Truth) → t.mask ≡ mask_of L → t.behind ≡ j → Some t ≡ answer_of (found L j)
+pub found_answer : (L : Label) (m j : ℕ) → m ≡ mask_of L → Some (m, j) ≡ answer_of (found L j)
 unfolding answer_of
-found_answer L j t m d =
-    let held : ℕ → ℕ → Truth = λ n k. record { mask = n; behind = k } in
-    ap Some (ap₂ held m d)
+found_answer L m j e =
+    let held : ℕ → ℕ × ℕ = λ n. (n, j) in
+    ap (λ n. Some (held n)) e
 
 -- Chains: what joins two labels, its byte, and what it joins, where f reads an operand.
 
@@ -87,24 +88,24 @@ chain_is And s f i = refl
 chain_is Or s f i = refl
 
 module _ (s : List ℕ) (o : Operator) (f : ℕ → Found) where
-  abbrev pub more_of : ℕ → Label → ℕ → Found
+  abbrev more_of : ℕ → Label → ℕ → Found
   more_of = more s (mark_of o) (joined o) (part_of o s f)
 
-  -- between two turns: a label of the truth t ends, and what follows from there comes to `whole`
-  pub record Chained (whole : Found) (t : Truth) : Type 0 where
+  -- between two turns: a label of the truth m ends at place j, and what follows from there comes to `whole`
+  record Chained (whole : Found) (m j : ℕ) : Type 0 where
     pub fuel : ℕ
     pub label : Label
-    pub mask : t.mask ≡ mask_of label
-    pub enough : length s ≤ t.behind + fuel
-    pub onward : more_of fuel label t.behind ≡ whole
+    pub mask : m ≡ mask_of label
+    pub enough : length s ≤ j + fuel
+    pub onward : more_of fuel label j ≡ whole
 
   first_of : Found → Found
   first_of x = elim x [ absent ↦ absent | found L k ↦ more_of (length s) L k ]
 
-  pub chain_starts : (i : ℕ) (t : Truth) → Some t ≡ answer_of (part_of o s f i) → Chained (chain_of o s f i) t
+  started : (i m j : ℕ) → Some (m, j) ≡ answer_of (part_of o s f i) → Chained (chain_of o s f i) m j
   unfolding first_of
-  chain_starts i t e =
-      let r = answer_some (part_of o s f i) t e in
+  started i m j e =
+      let r = answer_some (part_of o s f i) m j e in
       record {
         fuel = length s;
         label = r.label;
@@ -113,83 +114,146 @@ module _ (s : List ℕ) (o : Operator) (f : ℕ → Found) where
         onward = sym (ap first_of r.read) ∙ chain_is o s f i;
       }
 
-  pub chain_absent : (i : ℕ) → None ≡ answer_of (part_of o s f i) → None ≡ answer_of (chain_of o s f i)
+  unstarted : (i : ℕ) → None ≡ answer_of (part_of o s f i) → None ≡ answer_of (chain_of o s f i)
   unfolding answer_of first_of
-  chain_absent i e = sym (ap answer_of (sym (chain_is o s f i) ∙ ap first_of (answer_none (part_of o s f i) e)))
+  unstarted i e = sym (ap answer_of (sym (chain_is o s f i) ∙ ap first_of (answer_none (part_of o s f i) e)))
 
-  module _ (whole : Found) (t : Truth) (c : Chained whole t) where
-    pub chain_ends : (byte_at s (skip s t.behind) ≡ mark_of o → ⊥) → Some t ≡ answer_of whole
+  module _ (whole : Found) (m j : ℕ) (c : Chained whole m j) where
+    ended : None ≡ mark_at (mark_of o) s j → Some (m, j) ≡ answer_of whole
     unfolding more
-    chain_ends n = found_answer c.label t.behind t c.mask refl ∙ ap answer_of (sym (stops c.fuel) ∙ c.onward)
+    ended n = found_answer c.label m j c.mask ∙ ap answer_of (sym (stops c.fuel) ∙ c.onward)
       where
-        stops : (k : ℕ) → more_of k c.label t.behind ≡ found c.label t.behind
+        stops : (k : ℕ) → more_of k c.label j ≡ found c.label j
         stops zero = refl
         stops (suc k) =
             ap (λ (b : Bool). elim b [
-              | true ↦ elim (part_of o s f (skip s t.behind + 1)) [ absent ↦ absent | found M i ↦ more_of k (joined o c.label M) i ]
-              | false ↦ found c.label t.behind
-            ]) (ne_eqb (byte_at s (skip s t.behind)) (mark_of o) n)
+              | true ↦ elim (part_of o s f (skip s j + 1)) [ absent ↦ absent | found M i ↦ more_of k (joined o c.label M) i ]
+              | false ↦ found c.label j
+            ]) (ne_eqb (byte_at s (skip s j)) (mark_of o) (mark_missed (mark_of o) s j n))
 
     -- one part more: what follows from behind it comes to the whole, or there is none and the whole is absent
     after : ℕ → Found → Found
     after n x = elim x [ absent ↦ absent | found M i ↦ more_of n (joined o c.label M) i ]
 
-    record Turned : Type 0 where
+    record Turned (l : ℕ) : Type 0 where
       left : ℕ
-      room : length s < t.behind + suc left + 1
-      turn : after left (part_of o s f (skip s t.behind + 1)) ≡ whole
+      room : length s < j + suc left + 1
+      turn : after left (part_of o s f l) ≡ whole
 
-    module _ (e : byte_at s (skip s t.behind) ≡ mark_of o) where
-      turned : Turned
+    module _ (l : ℕ) (e : Some l ≡ mark_at (mark_of o) s j) where
+      turned : Turned l
       unfolding more after
       turned = go c.fuel c.enough c.onward
         where
-          go : (k : ℕ) → length s ≤ t.behind + k → more_of k c.label t.behind ≡ whole → Turned
-          go zero l h =
-              let past : length s ≤ t.behind = omega (arith, l, add-zero t.behind) in
-              absurd (mark_some o (sym e ∙ ap (λ (i : ℕ). get_or s i 0) (skip_end s t.behind past) ∙ byte_past s t.behind past))
-          go (suc k) l h =
+          t : (byte_at s (skip s j) ≡ mark_of o) × (l ≡ skip s j + 1)
+          t = mark_taken (mark_of o) s j l e
+
+          go : (k : ℕ) → length s ≤ j + k → more_of k c.label j ≡ whole → Turned l
+          go zero h x =
+              let past : length s ≤ j = omega (arith, h, add-zero j) in
+              absurd (mark_some o (sym t.0 ∙ ap (λ (i : ℕ). get_or s i 0) (skip_end s j past) ∙ byte_past s j past))
+          go (suc k) h x =
               record {
                 left = k;
                 room = omega arith;
                 turn =
-                    sym (ap (λ (b : Bool). elim b [
-                      | true ↦ elim (part_of o s f (skip s t.behind + 1)) [ absent ↦ absent | found M i ↦ more_of k (joined o c.label M) i ]
-                      | false ↦ found c.label t.behind
-                    ]) (eq-eqb (byte_at s (skip s t.behind)) (mark_of o) e)) ∙ h;
+                    ap (λ i. after k (part_of o s f i)) t.1
+                    ∙ sym (ap (λ (b : Bool). elim b [
+                      | true ↦ elim (part_of o s f (skip s j + 1)) [ absent ↦ absent | found M i ↦ more_of k (joined o c.label M) i ]
+                      | false ↦ found c.label j
+                    ]) (eq-eqb (byte_at s (skip s j)) (mark_of o) t.0)) ∙ x;
               }
 
-      pub chain_breaks : None ≡ answer_of (part_of o s f (skip s t.behind + 1)) → None ≡ answer_of whole
+      broken : None ≡ answer_of (part_of o s f l) → None ≡ answer_of whole
       unfolding answer_of after
-      chain_breaks b = let r = turned in sym (ap answer_of (sym r.turn ∙ ap (after r.left) (answer_none _ b)))
+      broken b = let r = turned in sym (ap answer_of (sym r.turn ∙ ap (after r.left) (answer_none _ b)))
 
-      pub chain_goes_on : (u v : Truth) → Some u ≡ answer_of (part_of o s f (skip s t.behind + 1)) → t.behind < u.behind
-          → v.mask ≡ joined_mask o t.mask u.mask → v.behind ≡ u.behind → Chained whole v
+      further : (n k : ℕ) → Some (n, k) ≡ answer_of (part_of o s f l) → j < k → Chained whole (joined_mask o m n) k
       unfolding after
-      chain_goes_on u v b h m d =
+      further n k b h =
           let r = turned in
-          let y = answer_some (part_of o s f (skip s t.behind + 1)) u b in
+          let y = answer_some (part_of o s f l) n k b in
           record {
             fuel = r.left;
             label = joined o c.label y.label;
-            mask = m ∙ ap₂ (joined_mask o) c.mask y.mask ∙ sym (mask_joined o c.label y.label);
+            mask = ap₂ (joined_mask o) c.mask y.mask ∙ sym (mask_joined o c.label y.label);
             enough = omega (arith, r.room);
-            onward = ap (λ j. more_of r.left (joined o c.label y.label) j) d ∙ sym (ap (after r.left) y.read) ∙ r.turn;
+            onward = sym (ap (after r.left) y.read) ∙ r.turn;
           }
 
--- Operands.
+-- A chain that begins at the scanner x, of operands in which d more may open: between two turns the scanner is y, and the truth so far m.
 
-pub negated_some : (x : Found) (t u : Truth) → Some t ≡ answer_of x → u.mask ≡ 65535 - t.mask → u.behind ≡ t.behind → Some u ≡ answer_of (negated x)
-unfolding mask_of
-negated_some x t u e m d =
-    let r = answer_some x t e in
-    rw r.read (found_answer (negation r.label) t.behind u (m ∙ ap (λ n. 65535 - n) r.mask) d)
+module _ (o : Operator) (k d : ℕ) (x : Scanner) where
+  abbrev operand_of : Scanner → ℕ → Found
+  operand_of y = operand_at y.text.now k d
 
-pub negated_none : (x : Found) → None ≡ answer_of x → None ≡ answer_of (negated x)
-unfolding answer_of
-negated_none x e = rw (answer_none x e) refl
+  -- what one part of the chain comes to, where the scanner is y
+  abbrev part_here : Scanner → Found
+  part_here y = part_of o y.text.now (operand_of y) y.at
 
-pub ruleset operand_steps = (operand_bare, operand_bang, operand_paren, operand_atom, negated_none)
+  abbrev whole_here : Found
+  whole_here = chain_of o x.text.now (operand_of x) x.at
+
+  pub record Chaining (m : ℕ) (y : Scanner) : Type 0 where
+    chained : Chained x.text.now o (operand_of x) whole_here m y.at
+    pub moved : Ahead 1 x y
+
+  pub chain_absent : None ≡ answer_of (part_here x) → None ≡ answer_of whole_here
+  chain_absent e = unstarted x.text.now o (operand_of x) x.at e
+
+  pub chain_starts : (m : ℕ) (y : Scanner) → Some (m, y.at) ≡ answer_of (part_here x) → Ahead 1 x y → Chaining m y
+  chain_starts m y e a = record { chained = started x.text.now o (operand_of x) x.at m y.at e; moved = a }
+
+  module _ (m : ℕ) (y : Scanner) (c : Chaining m y) (z : Scanner) where
+    pub chain_ends : None ≡ mark_at (mark_of o) y.text.now y.at → Moved false 1 y z → Some (m, z.at) ≡ answer_of whole_here
+    chain_ends e a = rw (a.stays refl) (ended x.text.now o (operand_of x) whole_here m y.at c.chained (rw (← c.moved.text) e))
+
+    module _ (e : Some z.at ≡ mark_at (mark_of o) y.text.now y.at) (a : Moved true 1 y z) where
+      mark_here : Some z.at ≡ mark_at (mark_of o) x.text.now y.at
+      mark_here = rw (← c.moved.text) e
+
+      pub chain_breaks : None ≡ answer_of (part_here z) → None ≡ answer_of whole_here
+      chain_breaks b =
+          broken x.text.now o (operand_of x) whole_here m y.at c.chained z.at mark_here (rw (← c.moved.text, ← a.text) b)
+
+      pub chain_goes_on : (n : ℕ) (w : Scanner) → Some (n, w.at) ≡ answer_of (part_here z) → Ahead 1 z w → Chaining (joined_mask o m n) w
+      chain_goes_on n w b h =
+          record {
+            chained =
+                further x.text.now o (operand_of x) whole_here m y.at c.chained z.at mark_here n w.at (rw (← c.moved.text, ← a.text) b)
+                (omega (arith, a.forward, h.forward));
+            moved = record { text = h.text ∙ a.text ∙ c.moved.text; forward = omega (arith, c.moved.forward, a.forward, h.forward) };
+          }
+
+-- Operands, of which l is the place behind a `!` or a `(`.
+
+module _ (s : List ℕ) (k d i : ℕ) where
+  module _ (more : d ≡ 0 → ⊥) (l : ℕ) where
+    module _ (e : Some l ≡ mark_at 0x21 s i) where
+      operand_negated : operand_at s k d i ≡ negated (operand_at s k (d - 1) l)
+      operand_negated =
+          let t = mark_taken 0x21 s i l e in
+          operand_bang s k d i more t.0 ∙ ap (λ j. negated (operand_at s k (d - 1) j)) (sym t.1)
+
+      pub negated_some : (m j : ℕ) → Some (m, j) ≡ answer_of (operand_at s k (d - 1) l) → Some (65535 - m, j) ≡ answer_of (operand_at s k d i)
+      unfolding mask_of
+      negated_some m j b =
+          let r = answer_some (operand_at s k (d - 1) l) m j b in
+          rw (operand_negated, r.read) (found_answer (negation r.label) (65535 - m) j (ap (λ n. 65535 - n) r.mask))
+
+      pub negated_none : None ≡ answer_of (operand_at s k (d - 1) l) → None ≡ answer_of (operand_at s k d i)
+      unfolding answer_of
+      negated_none b = rw (operand_negated, answer_none (operand_at s k (d - 1) l) b) refl
+
+    pub operand_closed : Some l ≡ mark_at 0x28 s i → operand_at s k d i ≡ closed s (disjunction s (operand_at s k (d - 1)) l)
+    operand_closed e =
+        let t = mark_taken 0x28 s i l e in
+        operand_paren s k d i more t.0 ∙ ap (λ j. closed s (disjunction s (operand_at s k (d - 1)) j)) (sym t.1)
+
+  pub operand_other : None ≡ mark_at 0x21 s i → None ≡ mark_at 0x28 s i → operand_at s k d i ≡ atom_at s k (skip s i)
+  operand_other e f = operand_atom s k d i (mark_missed 0x21 s i e) (mark_missed 0x28 s i f)
+
+pub ruleset operand_steps = (operand_bare, negated_some, negated_none, operand_closed, operand_other)
 
 -- Parentheses, behind the label that x is.
 
@@ -198,21 +262,24 @@ module _ (s : List ℕ) (x : Found) where
   unfolding answer_of
   closed_none e = rw (answer_none x e) refl
 
-  module _ (t : Truth) (e : Some t ≡ answer_of x) where
-    pub closed_some : byte_at s (skip s t.behind) ≡ 0x29 → (u : Truth) → u.mask ≡ t.mask → u.behind ≡ skip s t.behind + 1 → Some u ≡ answer_of (closed s x)
-    closed_some b u m d =
-        let r = answer_some x t e in
-        rw (r.read, eq-eqb (byte_at s (skip s t.behind)) 0x29 b)
-        (found_answer r.label (skip s t.behind + 1) u (m ∙ r.mask) d)
+  module _ (m j : ℕ) (e : Some (m, j) ≡ answer_of x) where
+    pub closed_some : (k : ℕ) → Some k ≡ mark_at 0x29 s j → Some (m, k) ≡ answer_of (closed s x)
+    closed_some k b =
+        let r = answer_some x m j e in
+        let t = mark_taken 0x29 s j k b in
+        rw (r.read, eq-eqb (byte_at s (skip s j)) 0x29 t.0, t.1)
+        (found_answer r.label m (skip s j + 1) r.mask)
 
-    pub unclosed : (byte_at s (skip s t.behind) ≡ 0x29 → ⊥) → None ≡ answer_of (closed s x)
+    pub unclosed : None ≡ mark_at 0x29 s j → None ≡ answer_of (closed s x)
     unfolding answer_of
-    unclosed b = let r = answer_some x t e in rw (r.read, ne_eqb (byte_at s (skip s t.behind)) 0x29 b) refl
+    unclosed b = let r = answer_some x m j e in rw (r.read, ne_eqb (byte_at s (skip s j)) 0x29 (mark_missed 0x29 s j b)) refl
+
+pub ruleset paren_steps = (closed_none, closed_some, unclosed)
 
 -- Propositions, of a number x that the code holds.
 
-module _ (k : ℕ) (few : k ≤ 4) (x : Number) where
-  pub proposition_missing : None ≡ capped x → None ≡ answer_of (proposition_of k x)
+module _ (k : ℕ) (x : Number) where
+  proposition_missing : None ≡ capped x → None ≡ answer_of (proposition_of k x)
   unfolding answer_of
   proposition_missing = by x
     where
@@ -220,25 +287,57 @@ module _ (k : ℕ) (few : k ≤ 4) (x : Number) where
       by none e = refl
       by (number v j) e = absurd (none-some _ e)
 
-  module _ (n : Numeral) (e : Some n ≡ capped x) where
-    pub proposition_known : n.value < k → (u : Truth) → u.mask ≡ proposition_mask n.value → u.behind ≡ n.behind → Some u ≡ answer_of (proposition_of k x)
+  module _ (few : k ≤ 4) (p j : ℕ) (e : Some (p, j) ≡ capped x) where
+    proposition_known : p < k → Some (proposition_mask p, j) ≡ answer_of (proposition_of k x)
     unfolding mask_of
-    proposition_known l u m d = by x e
+    proposition_known l = by x e
       where
-        by : (y : Number) → Some n ≡ capped y → Some u ≡ answer_of (proposition_of k y)
-        by none f = absurd (none-some n (sym f))
+        by : (y : Number) → Some (p, j) ≡ capped y → Some (proposition_mask p, j) ≡ answer_of (proposition_of k y)
+        by none f = absurd (none-some _ (sym f))
         by (number v i) f =
             let h = same_Some _ _ f in
-            let a : n.value ≡ min v 1000 = ap (λ c. c.value) h in
-            let q : v ≡ n.value = omega (arith, a, l, few) in
-            rw (lt-ltb v k (omega (arith, q, l))) (found_answer (proposition v) i u (m ∙ ap proposition_mask (sym q)) (d ∙ ap (λ c. c.behind) h))
+            let a : p ≡ min v 1000 = ap (λ c. c.0) h in
+            let q : v ≡ p = omega (arith, a, l, few) in
+            rw (lt-ltb v k (omega (arith, q, l)), ← ap (λ c. c.1) h) (found_answer (proposition v) _ j (ap proposition_mask (sym q)))
 
-    pub proposition_lacking : k ≤ n.value → None ≡ answer_of (proposition_of k x)
+    proposition_lacking : k ≤ p → None ≡ answer_of (proposition_of k x)
     unfolding answer_of
     proposition_lacking l = by x e
       where
-        by : (y : Number) → Some n ≡ capped y → None ≡ answer_of (proposition_of k y)
+        by : (y : Number) → Some (p, j) ≡ capped y → None ≡ answer_of (proposition_of k y)
         by none f = refl
         by (number v i) f =
-            let a : n.value ≡ min v 1000 = ap (λ c. c.value) (same_Some _ _ f) in
+            let a : p ≡ min v 1000 = ap (λ c. c.0) (same_Some _ _ f) in
             rw (le-ltb v k (omega (arith, a, l))) refl
+
+-- Atoms, behind white space.
+
+module _ (s : List ℕ) (k i : ℕ) where
+  pub atom_always : (j : ℕ) → Some j ≡ mark_at 0x74 s i → Some (65535, j) ≡ answer_of (atom_at s k (skip s i))
+  unfolding mask_of
+  atom_always j e =
+      let t = mark_taken 0x74 s i j e in
+      rw (atom_t s k (skip s i) t.0, t.1) (found_answer always 65535 (skip s i + 1) refl)
+
+  pub atom_never : (j : ℕ) → Some j ≡ mark_at 0x66 s i → Some (0, j) ≡ answer_of (atom_at s k (skip s i))
+  unfolding mask_of
+  atom_never j e =
+      let t = mark_taken 0x66 s i j e in
+      rw (atom_f s k (skip s i) t.0, t.1) (found_answer never 0 (skip s i + 1) refl)
+
+  module _ (t : None ≡ mark_at 0x74 s i) (f : None ≡ mark_at 0x66 s i) where
+    atom_number : atom_at s k (skip s i) ≡ proposition_of k (number_at s i)
+    atom_number =
+        atom_other s k (skip s i) (mark_missed 0x74 s i t) (mark_missed 0x66 s i f) ∙ ap (proposition_of k) (number_skip s i)
+
+    pub atom_missing : None ≡ capped (number_at s i) → None ≡ answer_of (atom_at s k (skip s i))
+    atom_missing e = rw atom_number (proposition_missing k (number_at s i) e)
+
+    module _ (few : k ≤ 4) (p j : ℕ) (e : Some (p, j) ≡ capped (number_at s i)) where
+      pub atom_lacking : k ≤ p → None ≡ answer_of (atom_at s k (skip s i))
+      atom_lacking l = rw atom_number (proposition_lacking k (number_at s i) few p j e l)
+
+      pub atom_known : p < k → (m : ℕ) → m ≡ proposition_mask p → Some (m, j) ≡ answer_of (atom_at s k (skip s i))
+      atom_known l m q = rw (q, atom_number) (proposition_known k (number_at s i) few p j e l)
+
+pub ruleset atom_steps = (atom_always, atom_never, atom_missing, atom_lacking, atom_known)

@@ -1,26 +1,20 @@
-// The label of a Hanoi edge, read from a place of the text: its truth on letters 0 to 15, a bit for each, and the place behind it. Disjunctions, conjunctions,
-// operands and parentheses call each other, and less of the text is left at each call.
+// The label of a Hanoi edge, taken from a text: its truth on letters 0 to 15, a bit for each. Disjunctions, conjunctions, operands and parentheses call each
+// other, and behind each `!` or `(` one less may open.
 #![tactic(auto)]
 
-ghost use Rattle.std.specs.Prelude.{◌≡◌, ◌≤◌, ◌+◌, length, IfSome};
+ghost use Rattle.std.specs.Prelude.{◌≡◌, ◌≤◌, cond, is_some};
+ghost use Rattle.std.specs.Option.{option_map};
 ghost use Rattle.labels.specs.Labels.{proposition_mask};
 ghost use Rattle.labels.specs.LabelReading.{atom_at, operand_at, conjunction, disjunction, closed, label_at};
-ghost use Rattle.tokens.specs.Places.{Past};
+ghost use Rattle.tokens.specs.Tokens.{skip};
+ghost use Rattle.tokens.specs.Scanners.{Ahead};
 ghost use Rattle.label_reader.specs.Truths.{answer_of};
 
-use tokens::{byte_at, number_at, skip};
+use tokens::Scanner;
 
-// A label's truth, and the place behind it.
+// Labels of so many propositions.
 #[derive(Clone, Copy)]
-pub struct Truth {
-    pub mask: u16,
-    pub behind: usize,
-}
-
-// A text with labels of so many propositions.
-#[derive(Clone, Copy)]
-struct Labels<'a> {
-    text: &'a [u8],
+struct Labels {
     propositions: usize,
     ghost few: { propositions ≤ 4 },
 }
@@ -37,130 +31,90 @@ fn proposition_mask(p: usize) -> u16
     }
 }
 
-impl Labels<'_> {
-    // t, f or a proposition that there is, at a place.
-    fn atom_at(&self, at: usize) -> Option<Truth>
-        requires { at ≤ length self.now.text.now }
-        ensures meaning { result ≡ answer_of (atom_at self.now.text.now self.now.propositions at) }
-        ensures forward { IfSome result (λ t. Past self.now.text.now (at + 1) t.behind) }
+impl Labels {
+    // t, f or a proposition that there is.
+    #[tactic(auto, using(crate::proofs::ReadTruths::atom_steps))]
+    fn atom_at(self, scanner: &mut Scanner<'_>) -> Option<u16>
+        ensures meaning { option_map (λ m. (m, scanner.new.at)) result ≡ answer_of (atom_at scanner.old.text.now self.propositions (skip scanner.old.text.now scanner.old.at)) }
+        ensures moved { Ahead (cond (is_some result) 1 0) scanner.old scanner.new }
     {
-        let b = byte_at(self.text, at);
-        if b == b't' {
-            return Some(Truth {
-                mask: 0xFFFF,
-                behind: at + 1,
-            });
+        if scanner.take(b't') {
+            return Some(0xFFFF);
         }
-        if b == b'f' {
-            return Some(Truth {
-                mask: 0,
-                behind: at + 1,
-            });
+        if scanner.take(b'f') {
+            return Some(0);
         }
-        let number = number_at(self.text, at)?;
-        if number.value >= self.propositions {
+        let p = scanner.number()?;
+        if p >= self.propositions {
             return None;
         }
-        Some(Truth {
-            mask: proposition_mask(number.value),
-            behind: number.behind,
-        })
+        Some(proposition_mask(p))
     }
 
     // Conjunctions joined by `|`. A function beside and_at, since a label is read by functions for or, and, not and parentheses, a rule of the project.
     #[cycle(label)]
-    fn or_at(&self, at: usize, depth: usize) -> Option<Truth>
-        requires { at ≤ length self.now.text.now }
-        ensures meaning { result ≡ answer_of (disjunction self.now.text.now (operand_at self.now.text.now self.now.propositions depth) at) }
-        ensures forward { IfSome result (λ t. Past self.now.text.now (at + 1) t.behind) }
+    fn or_at(self, scanner: &mut Scanner<'_>, depth: usize) -> Option<u16>
+        ensures meaning { option_map (λ m. (m, scanner.new.at)) result ≡ answer_of (disjunction scanner.old.text.now (operand_at scanner.old.text.now self.propositions depth) scanner.old.at) }
+        ensures moved { Ahead (cond (is_some result) 1 0) scanner.old scanner.new }
     {
-        let mut truth = self.and_at(at, depth)?;
-        loop {
-            let j = skip(self.text, truth.behind);
-            if byte_at(self.text, j) != b'|' {
-                return Some(truth);
-            }
-            let next = self.and_at(j + 1, depth)?;
-            truth = Truth {
-                mask: truth.mask | next.mask,
-                behind: next.behind,
-            };
+        let mut mask = self.and_at(scanner, depth)?;
+        while scanner.take(b'|') {
+            mask |= self.and_at(scanner, depth)?;
         }
+        Some(mask)
     }
 
     // Operands joined by `&`.
     #[cycle(label)]
-    fn and_at(&self, at: usize, depth: usize) -> Option<Truth>
-        requires { at ≤ length self.now.text.now }
-        ensures meaning { result ≡ answer_of (conjunction self.now.text.now (operand_at self.now.text.now self.now.propositions depth) at) }
-        ensures forward { IfSome result (λ t. Past self.now.text.now (at + 1) t.behind) }
+    fn and_at(self, scanner: &mut Scanner<'_>, depth: usize) -> Option<u16>
+        ensures meaning { option_map (λ m. (m, scanner.new.at)) result ≡ answer_of (conjunction scanner.old.text.now (operand_at scanner.old.text.now self.propositions depth) scanner.old.at) }
+        ensures moved { Ahead (cond (is_some result) 1 0) scanner.old scanner.new }
     {
-        let mut truth = self.not_at(at, depth)?;
-        loop {
-            let j = skip(self.text, truth.behind);
-            if byte_at(self.text, j) != b'&' {
-                return Some(truth);
-            }
-            let next = self.not_at(j + 1, depth)?;
-            truth = Truth {
-                mask: truth.mask & next.mask,
-                behind: next.behind,
-            };
+        let mut mask = self.not_at(scanner, depth)?;
+        while scanner.take(b'&') {
+            mask &= self.not_at(scanner, depth)?;
         }
+        Some(mask)
     }
 
     // An operand: a negation, a parenthesis, t, f or a proposition; `depth` more `!` and parentheses may open in it.
     #[cycle(label)]
     #[tactic(auto, using(crate::proofs::ReadTruths::operand_steps))]
-    fn not_at(&self, at: usize, depth: usize) -> Option<Truth>
-        requires { at ≤ length self.now.text.now }
-        ensures meaning { result ≡ answer_of (operand_at self.now.text.now self.now.propositions depth at) }
-        ensures forward { IfSome result (λ t. Past self.now.text.now (at + 1) t.behind) }
+    fn not_at(self, scanner: &mut Scanner<'_>, depth: usize) -> Option<u16>
+        ensures meaning { option_map (λ m. (m, scanner.new.at)) result ≡ answer_of (operand_at scanner.old.text.now self.propositions depth scanner.old.at) }
+        ensures moved { Ahead (cond (is_some result) 1 0) scanner.old scanner.new }
     {
-        let j = skip(self.text, at);
         if depth == 0 {
-            return self.atom_at(j);
+            return self.atom_at(scanner);
         }
-        let b = byte_at(self.text, j);
-        if b == b'!' {
-            let negated = self.not_at(j + 1, depth - 1)?;
-            return Some(Truth {
-                mask: !negated.mask,
-                behind: negated.behind,
-            });
+        if scanner.take(b'!') {
+            return Some(!self.not_at(scanner, depth - 1)?);
         }
-        if b == b'(' {
-            return self.paren_at(j + 1, depth - 1);
+        if scanner.take(b'(') {
+            return self.paren_at(scanner, depth - 1);
         }
-        self.atom_at(j)
+        self.atom_at(scanner)
     }
 
     // The label behind an opened parenthesis, and the closing one.
     #[cycle(label)]
-    fn paren_at(&self, at: usize, depth: usize) -> Option<Truth>
-        requires { at ≤ length self.now.text.now }
-        ensures meaning { result ≡ answer_of (closed self.now.text.now (disjunction self.now.text.now (operand_at self.now.text.now self.now.propositions depth) at)) }
-        ensures forward { IfSome result (λ t. Past self.now.text.now (at + 1) t.behind) }
+    #[tactic(auto, using(crate::proofs::ReadTruths::paren_steps))]
+    fn paren_at(self, scanner: &mut Scanner<'_>, depth: usize) -> Option<u16>
+        ensures meaning { option_map (λ m. (m, scanner.new.at)) result ≡ answer_of (closed scanner.old.text.now (disjunction scanner.old.text.now (operand_at scanner.old.text.now self.propositions depth) scanner.old.at)) }
+        ensures moved { Ahead (cond (is_some result) 1 0) scanner.old scanner.new }
     {
-        let label = self.or_at(at, depth)?;
-        let j = skip(self.text, label.behind);
-        if byte_at(self.text, j) != b')' {
-            return None;
-        }
-        Some(Truth {
-            mask: label.mask,
-            behind: j + 1,
-        })
+        let mask = self.or_at(scanner, depth)?;
+        scanner.take(b')').then_some(mask)
     }
 }
 
-// The label at a place.
+// Takes the label that stands here: its truth on letters 0 to 15.
 #[tactic(auto, unfolding(labels::specs::LabelReading::label_at))]
-pub fn label_at(text: &[u8], at: usize, propositions: usize) -> Option<Truth>
-    requires { (at ≤ length text.now) × (propositions ≤ 4) }
-    ensures meaning { result ≡ answer_of (label_at text.now propositions at) }
-    ensures forward { IfSome result (λ t. Past text.now (at + 1) t.behind) }
+pub fn label_at(scanner: &mut Scanner<'_>, propositions: usize) -> Option<u16>
+    requires { propositions ≤ 4 }
+    ensures meaning { option_map (λ m. (m, scanner.new.at)) result ≡ answer_of (label_at scanner.old.text.now propositions scanner.old.at) }
+    ensures moved { Ahead (cond (is_some result) 1 0) scanner.old scanner.new }
 {
-    let labels = Labels { text, propositions };
-    labels.or_at(at, 64)
+    let labels = Labels { propositions };
+    labels.or_at(scanner, 64)
 }

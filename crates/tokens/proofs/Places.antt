@@ -5,7 +5,7 @@ use mathlib.Core.List.{List, [], ◌∷◌}
 use Prim.Native.Nat.{ℕ, ◌+◌, ◌≤◌, min}
 use native.Mathlib.Omega.{arith}
 use lib.Dec.{eqb}
-use borrow.Author.Tests.{eq-eqb, ne_eqb}
+use borrow.Author.Tests.{eq-eqb, eqb-true, ne_eqb}
 use lib.ListN.{length, drop, take}
 use Rattle.std.specs.Cmp.Lexicographic.{pointwise}
 use Rattle.std.proofs.lemmas.List.{take_rest}
@@ -13,6 +13,7 @@ use Rattle.tokens.proofs.Words.{starts_with_lem}
 use Rattle.tokens.proofs.Runs.{byte_within, digits_on, skip_from}
 use Rattle.std.specs.Prelude.{Some, None}
 use Rattle.std.specs.Bool.{then_some}
+use Rattle.std.proofs.lemmas.Option.{none-some, same_Some}
 use Rattle.tokens.specs.Tokens.{digits_at, byte_at, skip, touches, starts_with, stands, behind, digit, digits, value, Number, none, number_at, name_bytes}
 use Rattle.tokens.specs.Places.{token_at, mark_at, name_from, name_at, capped}
 
@@ -45,6 +46,18 @@ module _ (b : ℕ) (s : List ℕ) (i : ℕ) where
   pub mark_stands : byte_at s (skip s i) ≡ b → Some (skip s i + 1) ≡ mark_at b s i
   unfolding mark_at
   mark_stands e = rw (mark_at, eq-eqb (byte_at s (skip s i)) b e) refl
+
+  pub mark_missed : None ≡ mark_at b s i → byte_at s (skip s i) ≡ b → ⊥
+  mark_missed e q = none-some (skip s i + 1) (e ∙ sym (mark_stands q))
+
+  pub mark_taken : (j : ℕ) → Some j ≡ mark_at b s i → (byte_at s (skip s i) ≡ b) × (j ≡ skip s i + 1)
+  unfolding mark_at
+  mark_taken j e = by (eqb (byte_at s (skip s i)) b) refl e
+    where
+      by : (x : Bool) → eqb (byte_at s (skip s i)) b ≡ x → Some j ≡ elim x [ true ↦ Some (skip s i + 1) | false ↦ None ]
+          → (byte_at s (skip s i) ≡ b) × (j ≡ skip s i + 1)
+      by true q f = (eqb-true (byte_at s (skip s i)) b q, same_Some _ _ f)
+      by false q f = absurd (none-some j (sym f))
 
 pub ruleset mark_steps = (mark_apart, mark_stands, byte_within)
 
