@@ -1,140 +1,169 @@
 // The header of a Hanoi text, item by item. The crate `hanoi` says what an item is.
 #![tactic(auto)]
 
-ghost use Rattle.std.specs.Prelude.{◌≡◌, Bool, ◌&&◌, ℕ, ◌≤◌, ◌<◌, ◌+◌, leb, ltb, length, map, IfOk};
-ghost use Rattle.tokens.specs.Places.{Past};
+ghost use Rattle.std.specs.Prelude.{◌≡◌, Bool, ◌&&◌, ℕ, ◌≤◌, ◌<◌, leb, ltb, length, IfOk};
+ghost use Rattle.tokens.specs.Scanners.{Ahead};
 ghost use Rattle.hanoi.specs.Numbers.{text_number};
-ghost use Rattle.hanoi.specs.Reading.{Step, expect_number, check, names, acc_name_item, header};
-ghost use Rattle.hanoi_header.specs.Items.{onward, expects};
-ghost use Rattle.hanoi_header.specs.Headers.{start_step, BeginsBody};
+ghost use Rattle.hanoi.specs.Reading.{Step, expect, expect_number, check, states_item, start_item, propositions_item, names, acc_name_item, acceptance_item, header};
+ghost use Rattle.hanoi_header.specs.Items.{onward};
+ghost use Rattle.hanoi_header.specs.Headers.{start_step, InRanges};
 
 use automaton::MAX_STATES;
 use hanoi::TextRefusal;
 use std::ops::Range;
-use tokens::{Numeral, name_at, number_at, token};
+use tokens::Scanner;
 
-// A header's values, and the place where the body begins.
+// A header's values.
 #[derive(Clone, Copy, Default)]
 pub struct Header {
     pub states: usize,
     pub start: usize,
     pub propositions: usize,
-    pub body: usize,
 }
 
-// The place behind the tokens that the words spell, one after the other.
-pub fn expect(text: &[u8], at: usize, words: &[&[u8]]) -> Result<usize, TextRefusal>
-    requires { at ≤ length text.now }
-    ensures meaning { (go : ℕ → Step) → expects (map (λ w. w.now) words.now) text.now at go ≡ onward result go }
-    ensures within { IfOk result (Past text.now at) }
+// Passes the token that the word spells.
+pub fn expect(scanner: &mut Scanner, word: &[u8]) -> Result<(), TextRefusal>
+    ensures meaning { (go : ℕ → Step) → expect word.now scanner.old.text.now scanner.old.at go ≡ onward result (λ _. go scanner.new.at) }
+    ensures ahead { IfOk result (λ _. Ahead (length word.now) scanner.old scanner.new) }
 {
-    let mut next = at;
-    for word in words {
-        next = token(text, next, word).ok_or(TextRefusal::OutsideSubset)?;
+    if scanner.token(word) {
+        Ok(())
+    } else {
+        Err(TextRefusal::OutsideSubset)
     }
-    Ok(next)
 }
 
-// The number at a place, if it is in the range; the others get the refusal.
+// Passes the number that stands here, if it is in the range; the others get the refusal.
 pub fn number_in(
-    text: &[u8],
-    at: usize,
+    scanner: &mut Scanner,
     range: Range<usize>,
     refusal: TextRefusal,
-) -> Result<Numeral, TextRefusal>
-    requires { (at ≤ length text.now) × (range.end ≤ 1000) }
+) -> Result<usize, TextRefusal>
+    requires { range.end ≤ 1000 }
     ensures meaning { (ok : ℕ → Bool) → ((v : ℕ) → ok v ≡ (leb range.start v && ltb v range.end)) → (go : ℕ → ℕ → Step)
-        → expect_number text.now at (λ v l. check (ok v) (text_number refusal) (go v l)) ≡ onward result (λ n. go n.value n.behind) }
-    ensures within { IfOk result (λ n. (range.start ≤ n.value) × (n.value < range.end) × Past text.now (at + 1) n.behind) }
+        → expect_number scanner.old.text.now scanner.old.at (λ v l. check (ok v) (text_number refusal) (go v l)) ≡ onward result (λ v. go v scanner.new.at) }
+    ensures within { IfOk result (λ v. (range.start ≤ v) × (v < range.end)) }
+    ensures ahead { IfOk result (λ _. Ahead 1 scanner.old scanner.new) }
 {
-    let number = number_at(text, at).ok_or(TextRefusal::OutsideSubset)?;
-    if range.contains(&number.value) {
+    let number = scanner.number().ok_or(TextRefusal::OutsideSubset)?;
+    if range.contains(&number) {
         Ok(number)
     } else {
         Err(refusal)
     }
 }
 
-// The same of the number behind the tokens that the words spell.
+// The same of the number behind the token that the word spells.
 pub fn numbered(
-    text: &[u8],
-    at: usize,
-    words: &[&[u8]],
+    scanner: &mut Scanner,
+    word: &[u8],
     range: Range<usize>,
     refusal: TextRefusal,
-) -> Result<Numeral, TextRefusal>
-    requires { (at ≤ length text.now) × (range.end ≤ 1000) }
+) -> Result<usize, TextRefusal>
+    requires { range.end ≤ 1000 }
     ensures meaning { (ok : ℕ → Bool) → ((v : ℕ) → ok v ≡ (leb range.start v && ltb v range.end)) → (go : ℕ → ℕ → Step)
-        → expects (map (λ w. w.now) words.now) text.now at (λ j. expect_number text.now j (λ v l. check (ok v) (text_number refusal) (go v l)))
-        ≡ onward result (λ n. go n.value n.behind) }
-    ensures within { IfOk result (λ n. (range.start ≤ n.value) × (n.value < range.end) × Past text.now (at + 1) n.behind) }
+        → expect word.now scanner.old.text.now scanner.old.at
+        (λ j. expect_number scanner.old.text.now j (λ v l. check (ok v) (text_number refusal) (go v l)))
+        ≡ onward result (λ v. go v scanner.new.at) }
+    ensures within { IfOk result (λ v. (range.start ≤ v) × (v < range.end)) }
+    ensures ahead { IfOk result (λ _. Ahead 1 scanner.old scanner.new) }
 {
-    let next = expect(text, at, words)?;
-    number_in(text, next, range, refusal)
+    expect(scanner, word)?;
+    number_in(scanner, range, refusal)
 }
 
 // So many quoted names.
-fn names(text: &[u8], at: usize, count: usize) -> Result<usize, TextRefusal>
-    requires { at ≤ length text.now }
-    ensures meaning { (go : ℕ → Step) → names count text.now at go ≡ onward result go }
-    ensures within { IfOk result (Past text.now at) }
+fn names(scanner: &mut Scanner, count: usize) -> Result<(), TextRefusal>
+    ensures meaning { (go : ℕ → Step) → names count scanner.old.text.now scanner.old.at go ≡ onward result (λ _. go scanner.new.at) }
+    ensures ahead { IfOk result (λ _. Ahead 0 scanner.old scanner.new) }
 {
-    let mut next = at;
     for _ in 0..count {
-        next = name_at(text, next).ok_or(TextRefusal::OutsideSubset)?;
+        if !scanner.name() {
+            return Err(TextRefusal::OutsideSubset);
+        }
     }
-    Ok(next)
+    Ok(())
 }
 
 // `acc-name: Buchi`, which may be left out.
-fn acc_name(text: &[u8], at: usize) -> Result<usize, TextRefusal>
-    requires { at ≤ length text.now }
-    ensures meaning { (go : ℕ → Step) → acc_name_item text.now at go ≡ onward result go }
-    ensures within { IfOk result (Past text.now at) }
+fn acc_name(scanner: &mut Scanner) -> Result<(), TextRefusal>
+    ensures meaning { (go : ℕ → Step) → acc_name_item scanner.old.text.now scanner.old.at go ≡ onward result (λ _. go scanner.new.at) }
+    ensures ahead { IfOk result (λ _. Ahead 0 scanner.old scanner.new) }
 {
-    match token(text, at, b"acc-name:") {
-        Some(next) => expect(text, next, &[b"Buchi"]),
-        None => Ok(at),
+    if scanner.token(b"acc-name:") {
+        expect(scanner, b"Buchi")
+    } else {
+        Ok(())
     }
 }
 
-// The whole header.
-pub fn read_header(text: &[u8]) -> Result<Header, TextRefusal>
-    ensures meaning { start_step result ≡ header text.now }
-    ensures within { IfOk result (BeginsBody text.now) }
+// `Acceptance: 1 Inf(0)`, and what ends the header.
+fn acceptance(scanner: &mut Scanner) -> Result<(), TextRefusal>
+    ensures meaning { (go : ℕ → Step) → acceptance_item scanner.old.text.now scanner.old.at go ≡ onward result (λ _. go scanner.new.at) }
+    ensures ahead { IfOk result (λ _. Ahead 0 scanner.old scanner.new) }
 {
-    let states = numbered(
-        text,
-        0,
-        &[b"HOA:", b"v1", b"States:"],
+    expect(scanner, b"Acceptance:")?;
+    expect(scanner, b"1")?;
+    expect(scanner, b"Inf")?;
+    expect(scanner, b"(")?;
+    expect(scanner, b"0")?;
+    expect(scanner, b")")?;
+    expect(scanner, b"--BODY--")
+}
+
+// What the text begins with, and the number of states.
+fn states(scanner: &mut Scanner) -> Result<usize, TextRefusal>
+    requires { scanner.old.at ≡ 0 }
+    ensures meaning { (go : ℕ → ℕ → Step) → states_item scanner.old.text.now go ≡ onward result (λ n. go n scanner.new.at) }
+    ensures within { IfOk result (λ n. (1 ≤ n) × (n ≤ 32)) }
+    ensures ahead { IfOk result (λ _. Ahead 1 scanner.old scanner.new) }
+{
+    expect(scanner, b"HOA:")?;
+    expect(scanner, b"v1")?;
+    numbered(
+        scanner,
+        b"States:",
         1..MAX_STATES + 1,
         TextRefusal::HeaderValues,
-    )?;
-    let start = numbered(
-        text,
-        states.behind,
-        &[b"Start:"],
-        0..states.value,
-        TextRefusal::HeaderValues,
-    )?;
-    let propositions = numbered(
-        text,
-        start.behind,
-        &[b"AP:"],
-        0..5,
-        TextRefusal::ManyPropositions,
-    )?;
-    let named = names(text, propositions.behind, propositions.value)?;
-    let accepting = acc_name(text, named)?;
-    let body = expect(
-        text,
-        accepting,
-        &[b"Acceptance:", b"1", b"Inf", b"(", b"0", b")", b"--BODY--"],
-    )?;
+    )
+}
+
+// The initial state, one of so many.
+fn start(scanner: &mut Scanner, states: usize) -> Result<usize, TextRefusal>
+    requires { states ≤ 32 }
+    ensures meaning { (go : ℕ → ℕ → Step) → start_item states scanner.old.text.now scanner.old.at go ≡ onward result (λ q. go q scanner.new.at) }
+    ensures within { IfOk result (λ q. q < states) }
+    ensures ahead { IfOk result (λ _. Ahead 1 scanner.old scanner.new) }
+{
+    numbered(scanner, b"Start:", 0..states, TextRefusal::HeaderValues)
+}
+
+// The number of propositions.
+fn propositions(scanner: &mut Scanner) -> Result<usize, TextRefusal>
+    ensures meaning { (go : ℕ → ℕ → Step) → propositions_item scanner.old.text.now scanner.old.at go ≡ onward result (λ k. go k scanner.new.at) }
+    ensures within { IfOk result (λ k. k ≤ 4) }
+    ensures ahead { IfOk result (λ _. Ahead 1 scanner.old scanner.new) }
+{
+    numbered(scanner, b"AP:", 0..5, TextRefusal::ManyPropositions)
+}
+
+// The whole header, from the front of the text.
+#[tactic(auto, unfolding(hanoi::specs::Reading::header))]
+pub fn read_header(scanner: &mut Scanner) -> Result<Header, TextRefusal>
+    requires { scanner.old.at ≡ 0 }
+    ensures meaning { start_step result scanner.new.at ≡ header scanner.old.text.now }
+    ensures within { IfOk result InRanges }
+    ensures ahead { IfOk result (λ _. Ahead 1 scanner.old scanner.new) }
+{
+    let states = states(scanner)?;
+    let start = start(scanner, states)?;
+    let propositions = propositions(scanner)?;
+    names(scanner, propositions)?;
+    acc_name(scanner)?;
+    acceptance(scanner)?;
     Ok(Header {
-        states: states.value,
-        start: start.value,
-        propositions: propositions.value,
-        body,
+        states,
+        start,
+        propositions,
     })
 }

@@ -1,10 +1,10 @@
--- `acc_name` meets its contract. Assumes nothing.
+-- `acc_name` meets its contract, by what the call for the first word answered. Assumes nothing.
 use Rattle.std.proofs.Common.{◌∙◌}
-use Rattle.hanoi_header.proofs.ItemLaws.{acc_name_test}
+use Rattle.hanoi_header.proofs.ItemLaws.{kind_passed, kind_missed}
 use Rattle.hanoi_header.proofs.acc_name.Goals as goal
 
-pub returns-in-Some-clause-meaning : goal.returns-in-Some-clause-meaning
-returns-in-Some-clause-meaning c = λ go. acc_name_test _ _ _ c.in-Some.ensures.meaning go ∙ c.expect.ensures.meaning go
+pub returns-then-token-clause-meaning : goal.returns-then-token-clause-meaning
+returns-then-token-clause-meaning c = λ go. kind_passed _ _ _ _ c.token.ensures.meaning go c.if-token.true ∙ rw (← c.token.ensures.moved.text) (c.expect.ensures.meaning go)
 
-pub returns-in-None-clause-meaning : goal.returns-in-None-clause-meaning
-returns-in-None-clause-meaning c = λ go. acc_name_test _ _ _ c.in-None.ensures.meaning go
+pub returns-else-token-clause-meaning : goal.returns-else-token-clause-meaning
+returns-else-token-clause-meaning c = λ go. rw (c.token.ensures.moved.stays c.if-token.false) (kind_missed _ _ _ _ c.token.ensures.meaning go c.if-token.false)
