@@ -4,7 +4,7 @@ use mathlib.Core.Path.{◌≡◌, refl, sym, ap, ap₂, subst, ◌∙◌}
 use mathlib.Core.Bool.{Bool, true, false, ◌&&◌, ◌||◌}
 use mathlib.Core.List.{List, ◌++◌}
 use Prim.Native.Nat.{ℕ, zero, suc, ◌+◌, ◌*◌, ◌/◌, ◌%◌, ◌^◌, ◌-◌, ◌≤◌, ◌<◌}
-use native.Mathlib.Nat.{pow-suc, div-eq_of_lt, div-one, add-zero, add-suc, zero-add}
+use native.Mathlib.Nat.{pow-suc, div-eq_of_lt, add-zero, add-suc, zero-add}
 use native.Mathlib.Numerals.{add-one}
 use native.Mathlib.Omega.{arith}
 use lib.Bits.{bit_or}
@@ -253,44 +253,17 @@ named_chosen t values (suc g) choice q u =
     ∙ sym (chosen_append values (g * 4) 4 choice q)
     ∙ ap (λ (k : ℕ). chosen values k choice q) (omega arith)
 
--- Entries named by parts of a word.
+-- Entries named group by group.
 
-module _ (t : List ℕ) where
-  named_append : (m k choice q : ℕ)
-      → named t (m + k) choice q ≡ (named t m choice q || named (drop (m * 16) t) k (choice / 2 ^ (m * 4)) q)
-  named_append m k choice q =
-      some_append test m k ∙ ap (λ (c : Bool). some test m 0 || c) (some_same (λ g. test (m + g)) _ k (λ g h. at_group g))
-    where
-      test : ℕ → Bool
-      test g = bit (get_or t (g * 16 + choice / 2 ^ (g * 4) % 16) 0) q
+module _ (t : List ℕ) (choice q : ℕ) where
+  pub named_none : bit 0 q ≡ named t 0 choice q
+  named_none = bit_zero q ∙ sym (some_none _)
 
-      at_group : (g : ℕ) → test (m + g) ≡ bit (get_or (drop (m * 16) t) (g * 16 + choice / 2 ^ (m * 4) / 2 ^ (g * 4) % 16) 0) q
-      at_group g =
-          let i : (m + g) * 16 ≡ m * 16 + g * 16 = omega arith in
-          let j : (m + g) * 4 ≡ m * 4 + g * 4 = omega arith in
-          let x : choice / 2 ^ ((m + g) * 4) ≡ choice / 2 ^ (m * 4) / 2 ^ (g * 4) =
-          ap (λ (y : ℕ). choice / 2 ^ y) j ∙ sym (shr-shr choice (m * 4) (g * 4)) in
-          ap₂ (λ (y z : ℕ). bit (get_or t (y + z % 16) 0) q) i x
-          ∙ ap (λ (y : ℕ). bit (get_or t y 0) q) (omega arith)
-          ∙ ap (λ (w : ℕ). bit w q) (sym (get_or-drop (m * 16) t (g * 16 + choice / 2 ^ (m * 4) / 2 ^ (g * 4) % 16) 0))
-
-  pub named_both : (m k choice left right q : ℕ)
-      → bit left q ≡ named t m choice q → bit right q ≡ named (drop (m * 16) t) k (choice / 2 ^ (m * 4)) q
-      → bit (bit_or left right) q ≡ named t (m + k) choice q
-  named_both m k choice left right q e d = bit_of_or left right q ∙ ap₂ ◌||◌ e d ∙ sym (named_append m k choice q)
-
-  -- what is named from place i on in the slice from there on
-  pub named_behind : (i k choice w q : ℕ) → i ≤ length t → bit w q ≡ named (take (length t - i) (drop i t)) k choice q
-      → bit w q ≡ named (drop i t) k choice q
-  named_behind i k choice w q h e =
-      e ∙ ap (λ (l : List ℕ). named l k choice q) (take_all (length t - i) (drop i t) (omega (arith, length-drop i t)))
-
-  pub named_one : (choice q : ℕ) → bit (get_or t (choice % 16) 0) q ≡ named t 1 choice q
-  unfolding some
-  named_one choice q =
-      ap (λ (x : ℕ). bit (get_or t x 0) q) (sym (zero-add (choice % 16)))
-      ∙ ap (λ (x : ℕ). bit (get_or t (0 + x % 16) 0) q) (sym (div-one choice))
-      ∙ sym (or_false _)
+  pub named_more : (g w : ℕ) → bit w q ≡ named t g choice q
+      → bit (bit_or w (get_or t (g * 16 + choice / 2 ^ (g * 4) % 16) 0)) q ≡ named t (g + 1) choice q
+  named_more g w e =
+      let v = get_or t (g * 16 + choice / 2 ^ (g * 4) % 16) 0 in
+      bit_of_or w v q ∙ ap (λ (b : Bool). b || bit v q) e ∙ sym (some_more (λ i. bit (get_or t (i * 16 + choice / 2 ^ (i * 4) % 16) 0) q) g)
 
 -- The number of groups.
 

@@ -56,41 +56,30 @@ pub fn fill(table: &mut [u64], values: &[u64], groups: usize)
     }
 }
 
-// The union of the entries that eight bits of the word name, in two groups.
-fn union_two(table: &[u64], choice: u64) -> u64
-    requires { 32 ≤ length table.now }
-    ensures { (q : ℕ) → bit result q ≡ named table.now 2 choice q }
+// The union of the entries that the word names, by four of its bits in each of so many groups. How many is a constant, so that no loop is left: it
+// stands in the innermost loops.
+fn union_in<const GROUPS: usize>(table: &[u64], choice: u64) -> u64
+    requires { (GROUPS ≤ 8) × (GROUPS * 16 ≤ length table.now) }
+    ensures { (q : ℕ) → bit result q ≡ named table.now GROUPS choice q }
 {
-    table[(choice % 16) as usize] | table[16 + (choice / 16 % 16) as usize]
-}
-
-// The same of 16 bits and four groups.
-fn union_four(table: &[u64], choice: u64) -> u64
-    requires { 64 ≤ length table.now }
-    ensures { (q : ℕ) → bit result q ≡ named table.now 4 choice q }
-{
-    union_two(table, choice) | union_two(&table[32..], choice / 256)
-}
-
-// The same of 32 bits and eight groups.
-fn union_eight(table: &[u64], choice: u64) -> u64
-    requires { 128 ≤ length table.now }
-    ensures { (q : ℕ) → bit result q ≡ named table.now 8 choice q }
-{
-    union_four(table, choice) | union_four(&table[64..], choice / 65536)
+    let mut found = 0;
+    for g in 0..GROUPS {
+        found |= table[g * 16 + (choice >> (g * 4)) as usize % 16];
+    }
+    found
 }
 
 // The union of the entries that the bits of the word name, in the groups that n values are held in; in a table of unions, the union of the
-// values that the word chooses. Without a loop and so a function for each number of groups, since it stands in the innermost loops.
+// values that the word chooses.
 pub fn union(table: &[u64], n: usize, choice: u64) -> u64
     requires { 128 ≤ length table.now }
     ensures { (q : ℕ) → bit result q ≡ named table.now (groups_for n) choice q }
 {
     if n <= 8 {
-        union_two(table, choice)
+        union_in::<2>(table, choice)
     } else if n <= 16 {
-        union_four(table, choice)
+        union_in::<4>(table, choice)
     } else {
-        union_eight(table, choice)
+        union_in::<8>(table, choice)
     }
 }

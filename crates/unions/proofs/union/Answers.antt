@@ -8,12 +8,12 @@ use Rattle.unions.proofs.union.Goals as goal
 
 pub returns-then-n-le8 : goal.returns-then-n-le8
 returns-then-n-le8 c q = let a = c.args in
-    c.union_two.ensures q ∙ sym (ap (λ (g : ℕ). named a.table.now g a.choice q) (groups_two a.n (omega arith)))
+    c.union_in.ensures q ∙ sym (ap (λ (g : ℕ). named a.table.now g a.choice q) (groups_two a.n (omega arith)))
 
 pub returns-then-n-le16 : goal.returns-then-n-le16
 returns-then-n-le16 c q = let a = c.args in
-    c.union_four.ensures q ∙ sym (ap (λ (g : ℕ). named a.table.now g a.choice q) (groups_four a.n (omega arith) (omega arith)))
+    c.union_in-then-n-le16.ensures q ∙ sym (ap (λ (g : ℕ). named a.table.now g a.choice q) (groups_four a.n (omega arith) (omega arith)))
 
 pub returns-else-n-le16 : goal.returns-else-n-le16
 returns-else-n-le16 c q = let a = c.args in
-    c.union_eight.ensures q ∙ sym (ap (λ (g : ℕ). named a.table.now g a.choice q) (groups_eight a.n (omega arith)))
+    c.union_in-else-n-le16.ensures q ∙ sym (ap (λ (g : ℕ). named a.table.now g a.choice q) (groups_eight a.n (omega arith)))
