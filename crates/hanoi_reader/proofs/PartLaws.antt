@@ -10,8 +10,7 @@ use native.Mathlib.Omega.{arith}
 use lib.Dec.{T, eqb, leb, ltb, eqb→eq, eqb_refl}
 use lib.ListN.{length, replicate, get_or-replicate, length-set}
 use borrow.Author.Tests.{eq-eqb, ne_eqb}
-use Rattle.std.specs.Prelude.{Option, Some, None}
-use Rattle.std.specs.Option.{option_map_or}
+use Rattle.std.specs.Prelude.{Some, None, Result, Ok, Err}
 use Rattle.std.proofs.lemmas.Option.{none-some, same_Some}
 use Rattle.automaton.specs.declared.Automaton.{Automaton}
 use Rattle.automaton.specs.Sets.{bit, member}
@@ -19,13 +18,16 @@ use Rattle.automaton.specs.Automata.{max_states, bare, InRange}
 use Rattle.automaton.specs.Members.{with_member}
 use Rattle.automaton.proofs.Booleans.{or_cases, or_left, or_right, same_test}
 use Rattle.automaton.proofs.Bits.{bit_zero, member_with}
-use Rattle.tokens.specs.Tokens.{skip, stands, behind}
+use Rattle.tokens.specs.Tokens.{skip}
+use Rattle.tokens.specs.declared.scanner.Scanner.{Scanner}
+use Rattle.tokens.specs.Scanners.{Ahead}
 use Rattle.tokens.specs.Places.{token_at}
+use Rattle.tokens.proofs.Places.{token_missed, token_taken}
 use Rattle.labels.specs.LabelReading.{label_at}
 use Rattle.labels.proofs.Below.{label_below, below_more}
-use Rattle.label_reader.specs.declared.Truth.{Truth}
 use Rattle.label_reader.specs.Truths.{answer_of}
 use Rattle.label_reader.proofs.ReadTruths.{Reads, answer_some, answer_none}
+use Rattle.hanoi.specs.declared.TextRefusal.{TextRefusal}
 use Rattle.hanoi.specs.Words.{END, State, left_brace, zero_word, right_brace, left_bracket, right_bracket}
 use Rattle.hanoi.specs.Descriptions.{Part, declared, edge, Description, extended}
 use Rattle.hanoi.specs.Reading.{Step, over, next, refused, describes, outside, expect, expect_number, check, is_declared, acceptance, declaration, state_at, edge_at, edge_of, end_at, part_at}
@@ -33,19 +35,21 @@ use Rattle.hanoi.specs.Meaning.{IsDescribed, with_letters, with_part, with_parts
 use Rattle.hanoi.proofs.Described.{described}
 use Rattle.hanoi.proofs.ReadSteps.{declared_none, declared_state, declared_edge}
 use Rattle.hanoi.proofs.TokensRead.{check_read, check_refused}
-use Rattle.hanoi_header.proofs.ItemLaws.{token_test, below_in}
+use Rattle.hanoi_header.proofs.ItemLaws.{below_in}
 use Rattle.hanoi_reader.specs.declared.parts.Body.{Body}
-use Rattle.hanoi_reader.specs.Taking.{with_mask, latest_state, begun, Held}
+use Rattle.hanoi_reader.specs.Taking.{with_mask, latest_state, begun, Held, Advanced, Taken}
 use Rattle.hanoi_reader.proofs.LetterLaws.{letters_mask}
 
 -- Marks, by what a call for the brace answered.
 
-pub mark_test : (s : List ℕ) (i : ℕ) (o : Option ℕ) → o ≡ token_at left_brace s i → (go : Bool → ℕ → Step)
-    → acceptance s i go ≡ option_map_or (λ j. expect zero_word s j (λ j. expect right_brace s j (go true))) o (go false i)
-unfolding acceptance
-mark_test s i o e go =
-    token_test left_brace s i (λ j. expect zero_word s j (λ j. expect right_brace s j (go true))) (go false i)
-    ∙ ap (λ x. option_map_or (λ j. expect zero_word s j (λ j. expect right_brace s j (go true))) x (go false i)) (sym e)
+module _ (s : List ℕ) (i : ℕ) (go : Bool → ℕ → Step) where
+  pub mark_none : None ≡ token_at left_brace s i → acceptance s i go ≡ go false i
+  unfolding acceptance
+  mark_none e = rw (acceptance, token_missed left_brace s i e) refl
+
+  pub mark_begins : (j : ℕ) → Some j ≡ token_at left_brace s i → acceptance s i go ≡ expect zero_word s j (λ k. expect right_brace s k (go true))
+  unfolding acceptance
+  mark_begins j e = let t = token_taken left_brace s i j e in rw (acceptance, t.0, t.1) refl
 
 -- What is held: an automaton in range, with the description's states and letters, and a latest state that is one of these.
 
@@ -113,9 +117,11 @@ module _ {D : Description} {b : Body} {A : Automaton} (H : Held D b A) (s : List
   pub declared_again : member b.declared q ≡ true → declaration s k q D ≡ over (refused 17)
   declared_again e = check_refused _ 17 _ (ap not (sym (H.declares q (held_small H small)) ∙ e))
 
-  -- undeclared: what the mark behind it comes to decides
-  pub undeclared : member b.declared q ≡ false → declaration s k q D ≡ acceptance s k (λ a l. next l (extended (declared q a) D))
-  undeclared e = check_read _ 17 _ (ap not (sym (H.declares q (held_small H small)) ∙ e))
+  -- undeclared: what the mark behind it comes to decides; t is the text by another name
+  pub undeclared : member b.declared q ≡ false → (t : List ℕ) → t ≡ s → declaration s k q D ≡ acceptance t k (λ a l. next l (extended (declared q a) D))
+  undeclared e t g =
+      check_read _ 17 _ (ap not (sym (H.declares q (held_small H small)) ∙ e))
+      ∙ ap (λ u. acceptance u k (λ a l. next l (extended (declared q a) D))) (sym g)
 
   pub held_state : (a : Bool) (C : Automaton) → C ≡ with_part A (declared q a) → (c : Body) → c.propositions ≡ b.propositions
       → c.declared ≡ with_member b.declared q → c.latest ≡ Some q → Held (extended (declared q a) D) c C
@@ -131,82 +137,73 @@ module _ {D : Description} {b : Body} {A : Automaton} (H : Held D b A) (s : List
         latest = sym l;
       }
 
--- Edges, of which o is what a call for the label answered.
+-- Edges, by what a call for the label answered.
 
-module _ {D : Description} {b : Body} {A : Automaton} (H : Held D b A) (s : List ℕ) (j : ℕ) (o : Option Truth) (label : o ≡ answer_of (label_at s b.propositions j)) where
+module _ {D : Description} {b : Body} {A : Automaton} (H : Held D b A) (s : List ℕ) (j q : ℕ) where
   same_label : answer_of (label_at s b.propositions j) ≡ answer_of (label_at s D.propositions j)
   same_label = ap (λ k. answer_of (label_at s k j)) (sym H.propositions)
 
-  pub edge_unlabelled : (q : ℕ) → o ≡ None → edge_at s j q D ≡ over (refused 17)
+  pub edge_unlabelled : None ≡ answer_of (label_at s b.propositions j) → edge_at s j q D ≡ over (refused 17)
   unfolding edge_at
-  edge_unlabelled q e = rw (answer_none (label_at s D.propositions j) (sym e ∙ label ∙ same_label), edge_at) refl
+  edge_unlabelled e = rw (answer_none (label_at s D.propositions j) (e ∙ same_label), edge_at) refl
 
-  pub label_read : (t : Truth) → o ≡ Some t → Reads (label_at s D.propositions j) t
-  label_read t e = answer_some (label_at s D.propositions j) t (sym e ∙ label ∙ same_label)
+  module _ (m l : ℕ) (e : Some (m, l) ≡ answer_of (label_at s b.propositions j)) where
+    pub label_read : Reads (label_at s D.propositions j) m l
+    label_read = answer_some (label_at s D.propositions j) m l (e ∙ same_label)
 
-  pub edge_labelled : (q : ℕ) (t : Truth) (y : Reads (label_at s D.propositions j) t) → edge_at s j q D
-      ≡ expect right_bracket s t.behind (λ k. expect_number s k (λ r l. check (ltb r D.states) 4 (next l (extended (edge q y.label r) D))))
-  unfolding edge_at
-  edge_labelled q t y = rw (y.read, edge_at) refl
+    -- t is the text by another name
+    pub edge_labelled : (t : List ℕ) → t ≡ s → edge_at s j q D
+        ≡ expect right_bracket t l (λ k. expect_number t k (λ r i. check (ltb r D.states) 4 (next i (extended (edge q label_read.label r) D))))
+    unfolding edge_at
+    edge_labelled t g =
+        let rest : List ℕ → Step =
+        λ u. expect right_bracket u l (λ k. expect_number u k (λ r i. check (ltb r D.states) 4 (next i (extended (edge q label_read.label r) D))))
+        in rw (label_read.read, edge_at) (ap rest (sym g))
 
-pub held_edge : {D : Description} {b : Body} {A : Automaton} (H : Held D b A) (s : List ℕ) (j q r : ℕ) (t : Truth)
-    → (y : Reads (label_at s D.propositions j) t) → b.latest ≡ Some q → r < A.states
-    → (C : Automaton) → C ≡ with_mask A q t.mask r A.letters 0 → Held (extended (edge q y.label r) D) b C
-unfolding automaton_of with_parts with_part
-held_edge {D} {b} {A} H s j q r t y l h C c =
-    let L = y.label in
-    let below = label_below s D.propositions j L t.behind y.read in
-    let few = below_more D.propositions 4 L below H.well_formed.few_propositions in
-    record {
-      well_formed = more_well_formed H.well_formed (edge q L r) (held_latest H q l, below, subst (λ (n : ℕ). r < n) (held_described H).describes.states h);
-      propositions = H.propositions;
-      automaton = c ∙ letters_mask q L t.mask y.mask few r A.letters 0 (omega (arith, (held_in_range H).few_letters)) A
-          ∙ ap (λ (B : Automaton). with_letters B q L r B.letters 0) H.automaton;
-      size = H.size;
-      declares = λ v u. H.declares v u ∙ sym (declared_edge v q L r D.parts);
-      latest = sym l;
-    }
+    pub held_edge : (r : ℕ) → b.latest ≡ Some q → r < A.states → (C : Automaton) → C ≡ with_mask A q m r A.letters 0
+        → Held (extended (edge q label_read.label r) D) b C
+    unfolding automaton_of with_parts with_part
+    held_edge r g h C c =
+        let L = label_read.label in
+        let below = label_below s D.propositions j L l label_read.read in
+        let few = below_more D.propositions 4 L below H.well_formed.few_propositions in
+        record {
+          well_formed = more_well_formed H.well_formed (edge q L r) (held_latest H q g, below, subst (λ (n : ℕ). r < n) (held_described H).describes.states h);
+          propositions = H.propositions;
+          automaton = c ∙ letters_mask q L m label_read.mask few r A.letters 0 (omega (arith, (held_in_range H).few_letters)) A
+              ∙ ap (λ (B : Automaton). with_letters B q L r B.letters 0) H.automaton;
+          size = H.size;
+          declares = λ v u. H.declares v u ∙ sym (declared_edge v q L r D.parts);
+          latest = sym g;
+        }
 
 -- What stands at a place, by what the calls for the words answered.
 
-module _ (s : List ℕ) (i : ℕ) (D : Description) (x : Option ℕ) (at_end : x ≡ token_at END s i) where
-  edge_here : Step
-  edge_here = elim (stands left_bracket s i) [ true ↦ edge_of s (behind left_bracket s i) D.parts D | false ↦ outside ]
+module _ (s : List ℕ) (i : ℕ) (D : Description) where
+  pub ended_part : (j : ℕ) → Some j ≡ token_at END s i → part_at s i D ≡ end_at s j D
+  unfolding part_at
+  ended_part j e = let t = token_taken END s i j e in rw (part_at, t.0, t.1) refl
 
-  state_here : Step
-  state_here = elim (stands State s i) [ true ↦ state_at s (behind State s i) D | false ↦ edge_here ]
+  module _ (e : None ≡ token_at END s i) where
+    pub state_part : (j : ℕ) → Some j ≡ token_at State s i → part_at s i D ≡ state_at s j D
+    unfolding part_at
+    state_part j f = let t = token_taken State s i j f in rw (part_at, token_missed END s i e, t.0, t.1) refl
 
-  by_end : part_at s i D ≡ option_map_or (λ j. end_at s j D) x state_here
-  unfolding part_at edge_here state_here
-  by_end =
-      token_test END s i (λ j. end_at s j D) state_here ∙ ap (λ (y : Option ℕ). option_map_or (λ j. end_at s j D) y state_here) (sym at_end)
+    pub edge_part : None ≡ token_at State s i → part_at s i D ≡ expect left_bracket s i (λ j. edge_of s j D.parts D)
+    unfolding part_at expect
+    edge_part f = rw (part_at, token_missed END s i e, token_missed State s i f) refl
 
-  pub ended_part : (j : ℕ) → x ≡ Some j → part_at s i D ≡ end_at s j D
-  ended_part j e = by_end ∙ ap (λ (y : Option ℕ). option_map_or (λ j. end_at s j D) y state_here) e
-
-  module _ (e : x ≡ None) (y : Option ℕ) (at_state : y ≡ token_at State s i) where
-    by_state : part_at s i D ≡ option_map_or (λ j. state_at s j D) y edge_here
-    unfolding state_here
-    by_state =
-        by_end ∙ ap (λ (z : Option ℕ). option_map_or (λ j. end_at s j D) z state_here) e
-        ∙ token_test State s i (λ j. state_at s j D) edge_here ∙ ap (λ (z : Option ℕ). option_map_or (λ j. state_at s j D) z edge_here) (sym at_state)
-
-    pub state_part : (j : ℕ) → y ≡ Some j → part_at s i D ≡ state_at s j D
-    state_part j f = by_state ∙ ap (λ (z : Option ℕ). option_map_or (λ j. state_at s j D) z edge_here) f
-
-    module _ (f : y ≡ None) (z : Option ℕ) (at_edge : z ≡ token_at left_bracket s i) where
-      by_edge : part_at s i D ≡ option_map_or (λ j. edge_of s j D.parts D) z outside
-      unfolding edge_here
-      by_edge =
-          by_state ∙ ap (λ (o : Option ℕ). option_map_or (λ j. state_at s j D) o edge_here) f
-          ∙ token_test left_bracket s i (λ j. edge_of s j D.parts D) outside
-          ∙ ap (λ (o : Option ℕ). option_map_or (λ j. edge_of s j D.parts D) o outside) (sym at_edge)
-
-      pub edge_part : (j : ℕ) → z ≡ Some j → part_at s i D ≡ edge_of s j D.parts D
-      edge_part j g = by_edge ∙ ap (λ (o : Option ℕ). option_map_or (λ j. edge_of s j D.parts D) o outside) g
-
-      pub no_part : z ≡ None → part_at s i D ≡ over (refused 17)
-      no_part g = by_edge ∙ ap (λ (o : Option ℕ). option_map_or (λ j. edge_of s j D.parts D) o outside) g
+-- what it comes to, from the scanner w on that moved on to y before the step
+module _ (D : Description) (b c : Body) (A : Automaton) (w y z : Scanner) where
+  pub part_taken : (k : ℕ) → Ahead k w y → (v x : Step) → v ≡ x → (r : Result Bool TextRefusal) → Taken y D x b z c A r → Taken w D v b z c A r
+  part_taken k m v x e (Err f) t = (e ∙ t.0, t.1, t.2)
+  part_taken k m v x e (Ok false) t = (e ∙ t.0, t.1, t.2)
+  part_taken k m v x e (Ok true) a = record {
+    description = a.description;
+    step = e ∙ a.step;
+    held = a.held;
+    ahead = record { text = a.ahead.text ∙ m.text; forward = omega (arith, m.forward, a.ahead.forward) };
+  }
 
 pub end_whole : (s : List ℕ) (j : ℕ) (D : Description) → skip s j ≡ length s → end_at s j D ≡ over (describes D)
 unfolding end_at

@@ -5,9 +5,12 @@ use mathlib.Core.List.{List}
 use Prim.Native.Nat.{ℕ, zero, suc, ◌+◌, ◌^◌, ◌≤◌, ◌<◌}
 use native.Mathlib.Omega.{arith}
 use lib.ListN.{length}
-use Rattle.std.specs.Prelude.{Option, Some, None, Result, Ok, Err, OnOk}
+use mathlib.Core.Bool.{Bool, true, false}
+use Rattle.std.specs.Prelude.{Result, Ok, Err, OnOk}
 use Rattle.automaton.specs.declared.Automaton.{Automaton}
 use Rattle.automaton.specs.Automata.{bare, InRange}
+use Rattle.tokens.specs.declared.scanner.Scanner.{Scanner}
+use Rattle.tokens.specs.Scanners.{Ahead}
 use Rattle.fixed_form.specs.WriteAnswers.{WriteAnswer}
 use Rattle.fixed_form.specs.WriteAnswers.{Refused as RefusedText}
 use Rattle.fixed_form.specs.Write.{Write, writing}
@@ -29,16 +32,16 @@ use Rattle.hanoi_reader.specs.declared.parts.Body.{Body}
 use Rattle.hanoi_reader.specs.Taking.{Headed, begun, Held, Advanced, Taken, described_past, described_before, Described, ReadTo}
 use Rattle.hanoi_reader.proofs.PartLaws.{held_starts}
 
--- What the code holds between two steps.
+-- What the code holds of the text s between two steps, where the scanner is y.
 
-pub record Going (s : List ℕ) (i : ℕ) (b : Body) (A : Automaton) : Type 0 where
+pub record Going (s : List ℕ) (y : Scanner) (b : Body) (A : Automaton) : Type 0 where
   pub fuel : ℕ
   pub description : Description
   pub held : Held description b A
-  pub enough : length s < i + fuel
-  pub within : i ≤ length s
-  pub left : body fuel s (next i description) ≡ read_hanoi s
-  pub past : described_past fuel s (next i description) description ≡ described_before s
+  pub text : y.text.now ≡ s
+  pub enough : length s < y.at + fuel
+  pub left : body fuel s (next y.at description) ≡ read_hanoi s
+  pub past : described_past fuel s (next y.at description) description ≡ described_before s
 
 past_over : (n : ℕ) (s : List ℕ) (r : Read) (D : Description) → described_past n s (over r) D ≡ D
 unfolding described_past
@@ -50,76 +53,84 @@ unfolding described_past
 past_next zero s i E D C = refl
 past_next (suc n) s i E D C = refl
 
-pub going_starts : (s : List ℕ) (h : Header) → Headed s h → (A : Automaton) → A ≡ bare h.states (2 ^ h.propositions) h.start
-    → Going s h.body (begun h.propositions) A
+pub going_starts : (y : Scanner) (h : Header) → Headed y h → (A : Automaton) → A ≡ bare h.states (2 ^ h.propositions) h.start
+    → Going y.text.now y (begun h.propositions) A
 unfolding read_hanoi described_before
-going_starts s h H A e =
+going_starts y h H A e =
+    let s = y.text.now in
     let D = headed_by h in
     record {
       fuel = length s;
       description = D;
-      held = subst (Held D (begun h.propositions)) (sym e) (held_starts D (header_next_well_formed s h.body D (sym H.step)) refl);
-      enough = omega (arith, H.begins.1.0);
-      within = H.begins.1.1;
+      held = subst (Held D (begun h.propositions)) (sym e) (held_starts D (header_next_well_formed s y.at D (sym H.step)) refl);
+      text = refl;
+      enough = omega (arith, H.behind);
       left = ap (body (length s) s) H.step;
-      past = past_next (length s) s h.body D D (headed 0 0 0) ∙ ap (λ (x : Step). described_past (length s) s x (headed 0 0 0)) H.step;
+      past = past_next (length s) s y.at D D (headed 0 0 0) ∙ ap (λ (x : Step). described_past (length s) s x (headed 0 0 0)) H.step;
     }
 
-module _ (s : List ℕ) (i : ℕ) (b : Body) (A : Automaton) (g : Going s i b A) where
+module _ (s : List ℕ) (y : Scanner) (b : Body) (A : Automaton) (g : Going s y b A) where
   -- one part less of the fuel
   record Stepped : Type 0 where
     rest : ℕ
-    room : length s < i + rest + 1
-    left : body rest s (part_at s i g.description) ≡ read_hanoi s
-    past : described_past rest s (part_at s i g.description) g.description ≡ described_before s
+    room : length s < y.at + rest + 1
+    left : body rest s (part_at s y.at g.description) ≡ read_hanoi s
+    past : described_past rest s (part_at s y.at g.description) g.description ≡ described_before s
 
   stepped : Stepped
   unfolding described_past
   stepped = by g.fuel g.enough g.left g.past
     where
-      by : (n : ℕ) → length s < i + n → body n s (next i g.description) ≡ read_hanoi s
-          → described_past n s (next i g.description) g.description ≡ described_before s → Stepped
-      by zero e a b = absurd (omega (arith, e, g.within))
-      by (suc n) e a b = record { rest = n; room = omega (arith, e); left = sym (body_on n s i g.description) ∙ a; past = b }
+      within : y.at ≤ length s
+      within = subst (λ (t : List ℕ). y.at ≤ length t) g.text y.within
 
-  over_reads : (r : Read) → part_at s i g.description ≡ over r → (read_hanoi s ≡ r) × (g.description ≡ described_before s)
+      by : (n : ℕ) → length s < y.at + n → body n s (next y.at g.description) ≡ read_hanoi s
+          → described_past n s (next y.at g.description) g.description ≡ described_before s → Stepped
+      by zero e a b = absurd (omega (arith, e, within))
+      by (suc n) e a b = record { rest = n; room = omega (arith, e); left = sym (body_on n s y.at g.description) ∙ a; past = b }
+
+  over_reads : (r : Read) → part_at s y.at g.description ≡ over r → (read_hanoi s ≡ r) × (g.description ≡ described_before s)
   over_reads r e =
       let t = stepped in (
         sym (ap (body t.rest s) (sym e) ∙ t.left) ∙ body_over t.rest s r,
         sym (past_over t.rest s r g.description) ∙ ap (λ (x : Step). described_past t.rest s x g.description) (sym e) ∙ t.past,
       )
 
-  -- the step came to r, with c and B left
-  module _ (c : Body) (B : Automaton) (r : Result (Option ℕ) TextRefusal) (t : Taken s i g.description (part_at s i g.description) b c B r) where
-    pub going_past : (j : ℕ) → r ≡ Ok (Some j) → Going s j c B × (i < j) × (j ≤ length s)
-    going_past j f =
-        let a : Advanced s i (part_at s i g.description) j c B = subst (Taken s i g.description (part_at s i g.description) b c B) f t in
+  -- the step came to r, with z, c and B left
+  module _ (z : Scanner) (c : Body) (B : Automaton) (r : Result Bool TextRefusal)
+      (t : Taken y g.description (part_at y.text.now y.at g.description) b z c B r) where
+    -- the same of the text s
+    taken : (q : Result Bool TextRefusal) → r ≡ q → Taken y g.description (part_at s y.at g.description) b z c B q
+    taken q f =
+        subst (λ (x : List ℕ). Taken y g.description (part_at x y.at g.description) b z c B q) g.text
+        (subst (Taken y g.description (part_at y.text.now y.at g.description) b z c B) f t)
+
+    pub going_past : r ≡ Ok true → Going s z c B × Ahead 1 y z
+    going_past f =
+        let a : Advanced y (part_at s y.at g.description) z c B = taken (Ok true) f in
         let u = stepped in (
           record {
             fuel = u.rest;
             description = a.description;
             held = a.held;
-            enough = omega (arith, u.room, a.past.0);
-            within = a.past.1;
+            text = ap (λ x. x.now) a.ahead.text ∙ g.text;
+            enough = omega (arith, u.room, a.ahead.forward);
             left = ap (body u.rest s) (sym a.step) ∙ u.left;
             past =
-                past_next u.rest s j a.description a.description g.description
+                past_next u.rest s z.at a.description a.description g.description
                 ∙ ap (λ (x : Step). described_past u.rest s x g.description) (sym a.step) ∙ u.past;
           },
-          omega (arith, a.past.0),
-          a.past.1,
+          a.ahead,
         )
 
-    pub going_ends : r ≡ Ok None → Described s B
+    pub going_ends : r ≡ Ok false → Described s B
     going_ends f =
-        let u : (part_at s i g.description ≡ over (describes g.description)) × (B ≡ automaton_of g.description) × (c ≡ b) =
-        subst (Taken s i g.description (part_at s i g.description) b c B) f t in
+        let u : (part_at s y.at g.description ≡ over (describes g.description)) × (B ≡ automaton_of g.description) × (c ≡ b) = taken (Ok false) f in
         record { description = g.description; read = (over_reads (describes g.description) u.0).0; automaton = u.1 }
 
     pub going_stops : (f : TextRefusal) → r ≡ Err f → ReadTo s (Err f) B
     going_stops f e =
-        let u : (part_at s i g.description ≡ over (refused (text_number f))) × (B ≡ automaton_of g.description) × (c ≡ b) =
-        subst (Taken s i g.description (part_at s i g.description) b c B) e t in
+        let u : (part_at s y.at g.description ≡ over (refused (text_number f))) × (B ≡ automaton_of g.description) × (c ≡ b) = taken (Err f) e in
         let v = over_reads (refused (text_number f)) u.0 in
         (v.0, u.1 ∙ ap automaton_of v.1)
 

@@ -1,35 +1,38 @@
 -- How the code holds a reading: the automaton so far, the states that are declared as a set of bytes, the state declared last, and no description at all.
 -- `Reading` of the crate `hanoi` says what a step is, and `Meaning` what automaton a description has. Only contracts of the reader name these.
---   Headed s h          the header of s is h, and the body begins where it says
+--   Headed y h          the header of the text of the scanner y is h, and y is at the body
 --   with_mask A q m r n a  A with the transitions from q to r on those of the n letters from a on whose bit is set in m
 --   latest_state xs     the state that was declared last, if there is one
 --   begun k             a body of k propositions, of which nothing is read
 --   Held D b A          the code holds the well-formed description D, by b and the automaton A
 --   Holds b A           the code holds some description
---   Advanced s i x j b A   the step x goes on at place j, behind place i, with a description that the code holds
---   goes r              a refusal, or the place where the reading goes on, as `take_part` answers
---   Taken s i D x b c A r  the step x, which began at place i with the description D and b, came to r and left c and A: a refusal and the end change nothing
+--   Advanced y x z b A  the step x goes on where the scanner z is, ahead of y, with a description that the code holds
+--   goes r              a refusal, or that the reading goes on, as `take_part` answers
+--   Taken y D x b z c A r  the step x, which began at the scanner y with the description D and b, came to r and left z, c and A: a refusal and the end change
+--                       neither c nor A
 --   described_before s  what the text describes before its end or its first fault
 --   Described s A       the text s is read, and A is its automaton
 --   ReadTo s r A        reading s came to r, and left the automaton A of what was read
 -- Shown by `going_starts`, `going_past`, `going_ends` and `going_stops`: how a reading goes on after a step. Assumes nothing.
-use Rattle.std.specs.Prelude.{◌≡◌, true, false, List, [], ◌∷◌, ℕ, zero, suc, ◌<◌, ◌+◌, length, replicate, Option, Some, None, Result, Ok, Err}
+use Rattle.std.specs.Prelude.{◌≡◌, Bool, true, false, List, [], ◌∷◌, ℕ, zero, suc, ◌<◌, ◌≤◌, length, replicate, Option, Some, None, Result, Ok, Err}
 use Rattle.automaton.specs.declared.Automaton.{Automaton}
 use Rattle.automaton.specs.Sets.{bit, member}
 use Rattle.automaton.specs.Automata.{max_states, with_transition}
-use Rattle.tokens.specs.Places.{Past}
+use Rattle.tokens.specs.declared.scanner.Scanner.{Scanner}
+use Rattle.tokens.specs.Scanners.{Ahead}
 use Rattle.hanoi.specs.declared.TextRefusal.{TextRefusal}
 use Rattle.hanoi.specs.Numbers.{text_number}
 use Rattle.hanoi.specs.Descriptions.{Part, declared, edge, Description, headed}
 use Rattle.hanoi.specs.Reading.{refused, describes, Step, over, next, header, is_declared, part_at, read_hanoi}
 use Rattle.hanoi.specs.Meaning.{automaton_of, WellFormed}
 use Rattle.hanoi_header.specs.declared.Header.{Header}
-use Rattle.hanoi_header.specs.Headers.{headed_by, BeginsBody}
+use Rattle.hanoi_header.specs.Headers.{headed_by, InRanges}
 use Rattle.hanoi_reader.specs.declared.parts.Body.{Body}
 
-pub record Headed (s : List ℕ) (h : Header) : Type 0 where
-  pub step : next h.body (headed_by h) ≡ header s
-  pub begins : BeginsBody s h
+pub record Headed (y : Scanner) (h : Header) : Type 0 where
+  pub step : next y.at (headed_by h) ≡ header y.text.now
+  pub in_ranges : InRanges h
+  pub behind : 1 ≤ y.at
 
 unfoldable pub with_mask : Automaton → ℕ → ℕ → ℕ → ℕ → ℕ → Automaton
 with_mask A q m r zero a = A
@@ -55,20 +58,20 @@ pub record Held (D : Description) (b : Body) (A : Automaton) : Type 0 where
 abbrev pub Holds : Body → Automaton → Type 0
 Holds b A = (D : Description) × Held D b A
 
-pub record Advanced (s : List ℕ) (i : ℕ) (x : Step) (j : ℕ) (b : Body) (A : Automaton) : Type 0 where
+pub record Advanced (y : Scanner) (x : Step) (z : Scanner) (b : Body) (A : Automaton) : Type 0 where
   pub description : Description
-  pub step : x ≡ next j description
+  pub step : x ≡ next z.at description
   pub held : Held description b A
-  pub past : Past s (i + 1) j
+  pub ahead : Ahead 1 y z
 
-abbrev pub goes : Result ℕ TextRefusal → Result (Option ℕ) TextRefusal
+abbrev pub goes : Result (Unit {0}) TextRefusal → Result Bool TextRefusal
 goes (Err f) = Err f
-goes (Ok j) = Ok (Some j)
+goes (Ok _) = Ok true
 
-abbrev pub Taken : List ℕ → ℕ → Description → Step → Body → Body → Automaton → Result (Option ℕ) TextRefusal → Type 0
-Taken s i D x b c A (Err f) = (x ≡ over (refused (text_number f))) × (A ≡ automaton_of D) × (c ≡ b)
-Taken s i D x b c A (Ok None) = (x ≡ over (describes D)) × (A ≡ automaton_of D) × (c ≡ b)
-Taken s i D x b c A (Ok (Some j)) = Advanced s i x j c A
+abbrev pub Taken : Scanner → Description → Step → Body → Scanner → Body → Automaton → Result Bool TextRefusal → Type 0
+Taken y D x b z c A (Err f) = (x ≡ over (refused (text_number f))) × (A ≡ automaton_of D) × (c ≡ b)
+Taken y D x b z c A (Ok false) = (x ≡ over (describes D)) × (A ≡ automaton_of D) × (c ≡ b)
+Taken y D x b z c A (Ok true) = Advanced y x z c A
 
 -- the description after the step x and the parts past it, at most n of them, with D before the step
 unfoldable pub described_past : ℕ → List ℕ → Step → Description → Description

@@ -15,6 +15,7 @@ use fixed_form::WriteRefusal;
 use hanoi::TextRefusal;
 use hanoi_header::Header;
 use parts::Body;
+use tokens::Scanner;
 
 mod parts;
 
@@ -30,15 +31,16 @@ fn start(automaton: &mut Automaton, header: Header)
 }
 
 // Reads the body behind a header: what `read` promises of the whole text.
-fn read_body(text: &[u8], header: Header, automaton: &mut Automaton) -> Result<(), TextRefusal>
-    requires { Headed text.now header × (automaton.old ≡ bare header.states (2 ^ header.propositions) header.start) }
-    ensures { ReadTo text.now result automaton.new }
+fn read_body(
+    scanner: &mut Scanner,
+    header: Header,
+    automaton: &mut Automaton,
+) -> Result<(), TextRefusal>
+    requires { Headed scanner.old header × (automaton.old ≡ bare header.states (2 ^ header.propositions) header.start) }
+    ensures { ReadTo scanner.old.text.now result automaton.new }
 {
     let mut body = Body::new(header.propositions);
-    let mut at = header.body;
-    while let Some(next) = body.take_part(text, at, automaton)? {
-        at = next;
-    }
+    while body.take_part(scanner, automaton)? {}
     Ok(())
 }
 
@@ -49,10 +51,11 @@ fn read(text: &[u8], automaton: &mut Automaton) -> Result<(), TextRefusal>
     ensures answer { ReadTo text.now result automaton.new }
     ensures in_range { OnOk result (InRange automaton.new) }
 {
-    match hanoi_header::read_header(text) {
+    let mut scanner = Scanner::new(text);
+    match hanoi_header::read_header(&mut scanner) {
         Ok(header) => {
             start(automaton, header);
-            read_body(text, header, automaton)
+            read_body(&mut scanner, header, automaton)
         }
         Err(refusal) => {
             start(automaton, Header::default());

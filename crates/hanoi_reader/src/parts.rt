@@ -1,6 +1,6 @@
 // The body of a Hanoi text: what stands at a place of it, and what it does to the automaton so far.
-ghost use Rattle.std.specs.Prelude.{◌≡◌, Bool, Some, ℕ, ◌≤◌, ◌<◌, length, IfOk};
-ghost use Rattle.tokens.specs.Places.{Past};
+ghost use Rattle.std.specs.Prelude.{◌≡◌, Bool, Some, ℕ, ◌≤◌, ◌<◌, IfOk};
+ghost use Rattle.tokens.specs.Scanners.{Ahead};
 ghost use Rattle.hanoi.specs.Descriptions.{Description};
 ghost use Rattle.hanoi.specs.Reading.{Step, acceptance, state_at, edge_at, part_at};
 ghost use Rattle.hanoi_header.specs.Items.{onward};
@@ -10,14 +10,7 @@ use automaton::{Automaton, add_member, is_member};
 use hanoi::TextRefusal;
 use hanoi_header::{expect, number_in, numbered};
 use label_reader::label_at;
-use tokens::{skip, token};
-
-// What stands behind a state's number: whether it accepts, and the place behind.
-#[derive(Clone, Copy)]
-struct Mark {
-    accepting: bool,
-    behind: usize,
-}
+use tokens::Scanner;
 
 // What is known of a body besides its automaton: the number of propositions, the states that are declared, and the state that the next edge belongs to.
 #[derive(Clone, Copy)]
@@ -27,25 +20,17 @@ pub struct Body {
     latest: Option<usize>,
 }
 
-// `{0}` behind a state's number, or nothing.
-fn mark_at(text: &[u8], at: usize) -> Result<Mark, TextRefusal>
-    requires { at ≤ length text.now }
-    ensures meaning { (go : Bool → ℕ → Step) → acceptance text.now at go ≡ onward result (λ m. go m.accepting m.behind) }
-    ensures within { IfOk result (λ m. Past text.now at m.behind) }
+// `{0}` behind a state's number, or nothing: whether the state accepts.
+fn mark_at(scanner: &mut Scanner) -> Result<bool, TextRefusal>
+    ensures meaning { (go : Bool → ℕ → Step) → acceptance scanner.old.text.now scanner.old.at go ≡ onward result (λ m. go m scanner.new.at) }
+    ensures ahead { IfOk result (λ _. Ahead 0 scanner.old scanner.new) }
 {
-    match token(text, at, b"{") {
-        Some(opened) => {
-            let behind = expect(text, opened, &[b"0", b"}"])?;
-            Ok(Mark {
-                accepting: true,
-                behind,
-            })
-        }
-        None => Ok(Mark {
-            accepting: false,
-            behind: at,
-        }),
+    if !scanner.token(b"{") {
+        return Ok(false);
     }
+    expect(scanner, b"0")?;
+    expect(scanner, b"}")?;
+    Ok(true)
 }
 
 // Adds the transitions from q to r on those letters whose bit is set in the mask.
@@ -75,73 +60,71 @@ impl Body {
     // Takes the state behind `State:`. A refusal changes nothing.
     fn take_state(
         &mut self,
-        text: &[u8],
-        at: usize,
+        scanner: &mut Scanner,
         automaton: &mut Automaton,
-    ) -> Result<usize, TextRefusal>
-        requires { (at ≤ length text.now) × Holds self.old automaton.old }
-        ensures { (D : Description) (i : ℕ) → i < at → Held D self.old automaton.old
-            → Taken text.now i D (state_at text.now at D) self.old self.new automaton.new (goes result) }
+    ) -> Result<(), TextRefusal>
+        requires { Holds self.old automaton.old }
+        ensures { (D : Description) → Held D self.old automaton.old
+            → Taken scanner.old D (state_at scanner.old.text.now scanner.old.at D) self.old scanner.new self.new automaton.new (goes result) }
     {
-        let state = number_in(text, at, 0..automaton.states, TextRefusal::OutsideHeader)?;
-        if is_member(&self.declared, state.value) {
+        let q = number_in(scanner, 0..automaton.states, TextRefusal::OutsideHeader)?;
+        if is_member(&self.declared, q) {
             return Err(TextRefusal::OutsideSubset);
         }
-        let mark = mark_at(text, state.behind)?;
-        add_member(&mut self.declared, state.value);
-        self.latest = Some(state.value);
-        if mark.accepting {
-            automaton.add_accepting(state.value);
+        let accepting = mark_at(scanner)?;
+        add_member(&mut self.declared, q);
+        self.latest = Some(q);
+        if accepting {
+            automaton.add_accepting(q);
         }
-        Ok(mark.behind)
+        Ok(())
     }
 
     // Takes the edge of state q behind its `[`. A refusal changes nothing.
     fn take_edge(
         &self,
-        text: &[u8],
-        at: usize,
+        scanner: &mut Scanner,
         q: usize,
         automaton: &mut Automaton,
-    ) -> Result<usize, TextRefusal>
-        requires { (at ≤ length text.now) × (self.now.latest ≡ Some q) × Holds self.now automaton.old }
-        ensures { (D : Description) (i : ℕ) → i < at → Held D self.now automaton.old
-            → Taken text.now i D (edge_at text.now at q D) self.now self.now automaton.new (goes result) }
+    ) -> Result<(), TextRefusal>
+        requires { (self.now.latest ≡ Some q) × Holds self.now automaton.old }
+        ensures { (D : Description) → Held D self.now automaton.old
+            → Taken scanner.old D (edge_at scanner.old.text.now scanner.old.at q D) self.now scanner.new self.now automaton.new (goes result) }
     {
-        let label = label_at(text, at, self.propositions).ok_or(TextRefusal::OutsideSubset)?;
-        let target = numbered(
-            text,
-            label.behind,
-            &[b"]"],
+        let mask = label_at(scanner, self.propositions).ok_or(TextRefusal::OutsideSubset)?;
+        let r = numbered(
+            scanner,
+            b"]",
             0..automaton.states,
             TextRefusal::OutsideHeader,
         )?;
-        add_letters(automaton, q, label.mask, target.value);
-        Ok(target.behind)
+        add_letters(automaton, q, mask, r);
+        Ok(())
     }
 
-    // Takes what stands at a place: a state, or an edge of the latest state; behind the end there is none. A refusal and the end change nothing.
+    // Takes what stands at the scanner, a state, or an edge of the latest state: whether the reading goes on. Behind the end there is nothing to take; a refusal
+    // and the end change nothing.
     pub fn take_part(
         &mut self,
-        text: &[u8],
-        at: usize,
+        scanner: &mut Scanner,
         automaton: &mut Automaton,
-    ) -> Result<Option<usize>, TextRefusal>
-        requires { (at ≤ length text.now) × Holds self.old automaton.old }
+    ) -> Result<bool, TextRefusal>
+        requires { Holds self.old automaton.old }
         ensures { (D : Description) → Held D self.old automaton.old
-            → Taken text.now at D (part_at text.now at D) self.old self.new automaton.new result }
+            → Taken scanner.old D (part_at scanner.old.text.now scanner.old.at D) self.old scanner.new self.new automaton.new result }
     {
-        if let Some(next) = token(text, at, b"--END--") {
-            if skip(text, next) != text.len() {
+        if scanner.token(b"--END--") {
+            scanner.skip();
+            if scanner.at != scanner.text.len() {
                 return Err(TextRefusal::OutsideSubset);
             }
-            return Ok(None);
+            return Ok(false);
         }
-        if let Some(next) = token(text, at, b"State:") {
-            return self.take_state(text, next, automaton).map(Some);
+        if scanner.token(b"State:") {
+            return self.take_state(scanner, automaton).and(Ok(true));
         }
-        let next = token(text, at, b"[").ok_or(TextRefusal::OutsideSubset)?;
+        expect(scanner, b"[")?;
         let q = self.latest.ok_or(TextRefusal::OutsideSubset)?;
-        self.take_edge(text, next, q, automaton).map(Some)
+        self.take_edge(scanner, q, automaton).and(Ok(true))
     }
 }

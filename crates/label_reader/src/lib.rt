@@ -34,7 +34,7 @@ fn proposition_mask(p: usize) -> u16
 impl Labels {
     // t, f or a proposition that there is.
     #[tactic(auto, using(crate::proofs::ReadTruths::atom_steps))]
-    fn atom_at(self, scanner: &mut Scanner<'_>) -> Option<u16>
+    fn atom_at(self, scanner: &mut Scanner) -> Option<u16>
         ensures meaning { option_map (λ m. (m, scanner.new.at)) result ≡ answer_of (atom_at scanner.old.text.now self.propositions (skip scanner.old.text.now scanner.old.at)) }
         ensures moved { Ahead (cond (is_some result) 1 0) scanner.old scanner.new }
     {
@@ -53,7 +53,7 @@ impl Labels {
 
     // Conjunctions joined by `|`. A function beside and_at, since a label is read by functions for or, and, not and parentheses, a rule of the project.
     #[cycle(label)]
-    fn or_at(self, scanner: &mut Scanner<'_>, depth: usize) -> Option<u16>
+    fn or_at(self, scanner: &mut Scanner, depth: usize) -> Option<u16>
         ensures meaning { option_map (λ m. (m, scanner.new.at)) result ≡ answer_of (disjunction scanner.old.text.now (operand_at scanner.old.text.now self.propositions depth) scanner.old.at) }
         ensures moved { Ahead (cond (is_some result) 1 0) scanner.old scanner.new }
     {
@@ -66,7 +66,7 @@ impl Labels {
 
     // Operands joined by `&`.
     #[cycle(label)]
-    fn and_at(self, scanner: &mut Scanner<'_>, depth: usize) -> Option<u16>
+    fn and_at(self, scanner: &mut Scanner, depth: usize) -> Option<u16>
         ensures meaning { option_map (λ m. (m, scanner.new.at)) result ≡ answer_of (conjunction scanner.old.text.now (operand_at scanner.old.text.now self.propositions depth) scanner.old.at) }
         ensures moved { Ahead (cond (is_some result) 1 0) scanner.old scanner.new }
     {
@@ -80,7 +80,7 @@ impl Labels {
     // An operand: a negation, a parenthesis, t, f or a proposition; `depth` more `!` and parentheses may open in it.
     #[cycle(label)]
     #[tactic(auto, using(crate::proofs::ReadTruths::operand_steps))]
-    fn not_at(self, scanner: &mut Scanner<'_>, depth: usize) -> Option<u16>
+    fn not_at(self, scanner: &mut Scanner, depth: usize) -> Option<u16>
         ensures meaning { option_map (λ m. (m, scanner.new.at)) result ≡ answer_of (operand_at scanner.old.text.now self.propositions depth scanner.old.at) }
         ensures moved { Ahead (cond (is_some result) 1 0) scanner.old scanner.new }
     {
@@ -99,7 +99,7 @@ impl Labels {
     // The label behind an opened parenthesis, and the closing one.
     #[cycle(label)]
     #[tactic(auto, using(crate::proofs::ReadTruths::paren_steps))]
-    fn paren_at(self, scanner: &mut Scanner<'_>, depth: usize) -> Option<u16>
+    fn paren_at(self, scanner: &mut Scanner, depth: usize) -> Option<u16>
         ensures meaning { option_map (λ m. (m, scanner.new.at)) result ≡ answer_of (closed scanner.old.text.now (disjunction scanner.old.text.now (operand_at scanner.old.text.now self.propositions depth) scanner.old.at)) }
         ensures moved { Ahead (cond (is_some result) 1 0) scanner.old scanner.new }
     {
@@ -110,7 +110,7 @@ impl Labels {
 
 // Takes the label that stands here: its truth on letters 0 to 15.
 #[tactic(auto, unfolding(labels::specs::LabelReading::label_at))]
-pub fn label_at(scanner: &mut Scanner<'_>, propositions: usize) -> Option<u16>
+pub fn label_at(scanner: &mut Scanner, propositions: usize) -> Option<u16>
     requires { propositions ≤ 4 }
     ensures meaning { option_map (λ m. (m, scanner.new.at)) result ≡ answer_of (label_at scanner.old.text.now propositions scanner.old.at) }
     ensures moved { Ahead (cond (is_some result) 1 0) scanner.old scanner.new }

@@ -4,3 +4,4 @@ pub mod LexicalLaws
 pub mod Words
 pub mod Numbers
 pub mod Places
+pub mod Scanners

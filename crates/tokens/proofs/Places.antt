@@ -11,7 +11,7 @@ use Rattle.std.specs.Cmp.Lexicographic.{pointwise}
 use Rattle.std.proofs.lemmas.List.{take_rest}
 use Rattle.tokens.proofs.Words.{starts_with_lem}
 use Rattle.tokens.proofs.Runs.{byte_within, digits_on, skip_from}
-use Rattle.std.specs.Prelude.{Some, None}
+use Rattle.std.specs.Prelude.{Option, Some, None}
 use Rattle.std.specs.Bool.{then_some}
 use Rattle.std.proofs.lemmas.Option.{none-some, same_Some}
 use Rattle.tokens.specs.Tokens.{digits_at, byte_at, skip, touches, starts_with, stands, behind, digit, digits, value, Number, none, number_at, name_bytes}
@@ -33,6 +33,22 @@ module _ (w s : List ℕ) (i : ℕ) where
 
   pub token_stands : pointwise eqb w (take (length w) (drop (skip s i) s)) ≡ true → touches s (skip s i) ≡ false → Some (behind w s i) ≡ token_at w s i
   token_stands e t = token_lem true (ap₂ (λ x y. x && not y) (sym (starts_with_lem w (drop (skip s i) s)) ∙ e) t)
+
+  pub token_missed : None ≡ token_at w s i → stands w s i ≡ false
+  unfolding token_at
+  token_missed e = by (stands w s i) e
+    where
+      by : (x : Bool) → ◌≡◌ {A = Option ℕ} None (elim x [ true ↦ Some (behind w s i) | false ↦ None ]) → x ≡ false
+      by true f = absurd (none-some (behind w s i) f)
+      by false f = refl
+
+  pub token_taken : (j : ℕ) → Some j ≡ token_at w s i → (stands w s i ≡ true) × (j ≡ behind w s i)
+  unfolding token_at
+  token_taken j e = by (stands w s i) e
+    where
+      by : (x : Bool) → Some j ≡ elim x [ true ↦ Some (behind w s i) | false ↦ None ] → (x ≡ true) × (j ≡ behind w s i)
+      by true f = (refl, same_Some _ _ f)
+      by false f = absurd (none-some j (sym f))
 
 pub ruleset token_steps = (token_apart, token_touches, token_stands, take_rest)
 

@@ -3,8 +3,8 @@ use Rattle.std.proofs.Common.{◌-◌, length}
 use Rattle.hanoi_reader.proofs.ReadLaws.{Going}
 use Rattle.hanoi_reader.proofs.read_body.Given as goal
 
-abbrev pub invariant-loop-next : goal.invariant-loop-next
-invariant-loop-next l = Going l.text l.at l.body l.automaton
+abbrev pub invariant-loop : goal.invariant-loop
+invariant-loop l = Going l.fn.scanner.text.now l.scanner l.body l.automaton
 
-abbrev pub decreases-loop-next : goal.decreases-loop-next
-decreases-loop-next l = length l.text - l.at
+abbrev pub decreases-loop : goal.decreases-loop
+decreases-loop l = length l.scanner.text.now - l.scanner.at

@@ -1,39 +1,50 @@
 -- `Body::take_part` meets its contract, by the token that stands at the place. Assumes nothing.
-use Rattle.std.proofs.Common.{◌≡◌, refl, sym, ◌∙◌, arith, rules}
-use Rattle.std.proofs.lemmas.Option.{MatchOption-at_some}
+use Rattle.std.proofs.Common.{◌≡◌, refl, sym, ap, ◌∙◌, length, arith, rules}
 use Rattle.std.proofs.lemmas.Result.{err_from_is_err_and}
+use Rattle.tokens.proofs.Scanners.{ahead_moved, ahead_append}
 use Rattle.hanoi_header.proofs.ItemLaws.{missing}
 use Rattle.hanoi_reader.specs.Taking.{goes}
-use Rattle.hanoi_reader.proofs.PartLaws.{ended_part, state_part, edge_part, no_part, end_whole, end_followed, latest_none, latest_some}
+use Rattle.hanoi_reader.proofs.PartLaws.{ended_part, state_part, edge_part, part_taken, end_whole, end_followed, latest_none, latest_some}
 use Rattle.hanoi_reader.proofs.parts.Body.take_part.Goals as goal
 
-pub returns-then-skip-text : goal.returns-then-skip-text
-returns-then-skip-text c = λ D H. (
-  ended_part _ _ D _ c.in-Some.ensures.meaning _ refl ∙ end_followed _ _ D (λ e. c.if-skip-text.true (c.skip.ensures.0 ∙ e)),
-  H.automaton,
-  refl,
-)
+pub returns-then-scanner : goal.returns-then-scanner
+returns-then-scanner c = λ D H.
+    let m = c.if-token.ensures in
+    let k = c.skip.ensures in (
+      ended_part _ _ D _ m.meaning
+          ∙ rw (← m.moved.text) (end_followed _ _ D (λ e. c.if-scanner.true (k.1 ∙ e ∙ ap (λ x. length x.now) (sym k.0)))),
+      H.automaton,
+      refl,
+    )
 
-pub returns-in-Some : goal.returns-in-Some
-returns-in-Some c = λ D H. (
-  ended_part _ _ D _ c.in-Some.ensures.meaning _ refl ∙ end_whole _ _ D (sym c.skip.ensures.0 ∙ c.if-skip-text.false),
-  H.automaton,
-  refl,
-)
+pub returns-then-token : goal.returns-then-token
+returns-then-token c = λ D H.
+    let m = c.if-token.ensures in
+    let k = c.skip.ensures in (
+      ended_part _ _ D _ m.meaning
+          ∙ rw (← m.moved.text) (end_whole _ _ D (sym k.1 ∙ c.if-scanner.false ∙ ap (λ x. length x.now) k.0)),
+      H.automaton,
+      refl,
+    )
 
-pub returns-in-Some-token : goal.returns-in-Some-token
-returns-in-Some-token c =
-    let e : c.map.result ≡ goes c.take_state.result = search rules in
+pub returns-then-token-2 : goal.returns-then-token-2
+returns-then-token-2 c =
+    let e : c.and.result ≡ goes c.take_state.result = search rules in
+    let m = c.if-token.ensures in
+    let n = c.if-token-2.ensures in
     rw e (λ D H.
-    rw (state_part _ _ D _ c.in_default.ensures.meaning refl _ c.in-Some-token.ensures.meaning _ refl)
-    (c.take_state.ensures D _ (omega (arith, c.in-Some-token.ensures.within.0)) H))
+    part_taken _ _ _ _ _ _ _ _ (ahead_append (ahead_moved m.moved) (ahead_moved n.moved))
+    _ _ (state_part _ _ D m.meaning _ (rw (m.moved.text, m.moved.stays refl) at n.meaning) ∙ rw (← m.moved.text, ← n.moved.text) refl)
+    (goes c.take_state.result) (c.take_state.ensures D H))
 
-pub returns-in_err-next : goal.returns-in_err-next
-returns-in_err-next c =
+pub returns-in_err-expect : goal.returns-in_err-expect
+returns-in_err-expect c =
     let p = err_from_is_err_and c.from_residual.result c.from_residual.ensures.1 in
-    let h = missing _ _ c.in_err-next.ensures.value in
-    rw (p.1, p.2, h.1) (λ D H. (
-      no_part _ _ D _ c.in_default.ensures.meaning refl _ c.in_default-token.ensures.meaning refl _ c.token-3.ensures.meaning h.0,
+    let m = c.if-token.ensures in
+    let n = c.if-token-2.ensures in
+    rw (p.1, p.2) (λ D H. (
+      edge_part _ _ D m.meaning (rw (m.moved.text, m.moved.stays refl) at n.meaning)
+          ∙ rw (← m.moved.text, ← n.moved.text, ← m.moved.stays refl, ← n.moved.stays refl) (c.in_err-expect.ensures.meaning _),
       H.automaton,
       refl,
     ))
@@ -42,17 +53,25 @@ pub returns-in_err-q : goal.returns-in_err-q
 returns-in_err-q c =
     let p = err_from_is_err_and c.from_residual-in_err-q.result c.from_residual-in_err-q.ensures.1 in
     let h = missing _ _ c.in_err-q.ensures.value in
+    let m = c.if-token.ensures in
+    let n = c.if-token-2.ensures in
     rw (p.1, p.2, h.1) (λ D H. (
-      edge_part _ _ D _ c.in_default.ensures.meaning refl _ c.in_default-token.ensures.meaning refl _ c.token-3.ensures.meaning _ c.in_ok-next.ensures.ok_part
-          ∙ latest_none _ _ D (H.latest ∙ h.0),
+      edge_part _ _ D m.meaning (rw (m.moved.text, m.moved.stays refl) at n.meaning)
+          ∙ rw (← m.moved.text, ← n.moved.text, ← m.moved.stays refl, ← n.moved.stays refl)
+          (c.in_ok-expect.ensures.meaning _ ∙ latest_none _ _ D (H.latest ∙ h.0)),
       H.automaton,
       refl,
     ))
 
 pub returns : goal.returns
 returns c =
-    let e : c.map-2.result ≡ goes c.take_edge.result = search rules in
-    let w = MatchOption-at_some _ _ _ c.in_ok-next.ensures.ok_part c.token-3.ensures.within in
+    let e : c.and-2.result ≡ goes c.take_edge.result = search rules in
+    let m = c.if-token.ensures in
+    let n = c.if-token-2.ensures in
+    let x = c.in_ok-expect.ensures in
     rw e (λ D H.
-    let g = edge_part _ _ D _ c.in_default.ensures.meaning refl _ c.in_default-token.ensures.meaning refl _ c.token-3.ensures.meaning _ c.in_ok-next.ensures.ok_part in
-    rw (g, latest_some _ _ _ D (H.latest ∙ c.in_ok-q.ensures.ok_part)) (c.take_edge.ensures D _ (omega (arith, w.0)) H))
+    part_taken _ _ _ _ _ _ _ _ (ahead_append (ahead_moved m.moved) (ahead_append (ahead_moved n.moved) x.ahead))
+    _ _ (edge_part _ _ D m.meaning (rw (m.moved.text, m.moved.stays refl) at n.meaning)
+    ∙ rw (← m.moved.text, ← n.moved.text, ← m.moved.stays refl, ← n.moved.stays refl)
+    (x.meaning _ ∙ rw (← x.ahead.text) (latest_some _ _ _ D (H.latest ∙ c.in_ok-q.ensures.ok_part))))
+    (goes c.take_edge.result) (c.take_edge.ensures D H))
