@@ -30,14 +30,14 @@ use Rattle.label_reader.proofs.ReadTruths.{Reads, answer_some, answer_none}
 use Rattle.hanoi.specs.declared.TextRefusal.{TextRefusal}
 use Rattle.hanoi.specs.Words.{END, State, left_brace, zero_word, right_brace, left_bracket, right_bracket}
 use Rattle.hanoi.specs.Descriptions.{Part, declared, edge, Description, extended}
-use Rattle.hanoi.specs.Reading.{Step, over, next, refused, describes, outside, expect, expect_number, check, is_declared, acceptance, declaration, state_at, edge_at, edge_of, end_at, part_at}
+use Rattle.hanoi.specs.Reading.{Step, over, next, refused, describes, expect, expect_number, check, is_declared, acceptance, declaration, state_at, edge_at, edge_of, end_at, part_at}
 use Rattle.hanoi.specs.Meaning.{IsDescribed, with_letters, with_part, with_parts, automaton_of, PartWithin, WellFormed}
 use Rattle.hanoi.proofs.Described.{described}
 use Rattle.hanoi.proofs.ReadSteps.{declared_none, declared_state, declared_edge}
 use Rattle.hanoi.proofs.TokensRead.{check_read, check_refused}
 use Rattle.hanoi_header.proofs.ItemLaws.{below_in}
 use Rattle.hanoi_reader.specs.declared.parts.Body.{Body}
-use Rattle.hanoi_reader.specs.Taking.{with_mask, latest_state, begun, Held, Advanced, Taken}
+use Rattle.hanoi_reader.specs.Taking.{with_mask, latest_state, begun, Held, Taken}
 use Rattle.hanoi_reader.proofs.LetterLaws.{letters_mask}
 
 -- Marks, by what a call for the brace answered.
