@@ -280,6 +280,8 @@ module _ (n : ℕ) where
   unfolding groups_for
   groups_eight h = ap₂ groups_where (lt-ltb 8 n (omega arith)) (lt-ltb 16 n h)
 
+  pub ruleset groups_where_n = (groups_two, groups_four, groups_eight)
+
   pub groups_enough : n ≤ 32 → (groups_for n ≤ 8) × (n ≤ groups_for n * 4)
   groups_enough h = go (ltb 8 n) (ltb 16 n) refl refl
     where

@@ -10,6 +10,7 @@ ghost use Rattle.unions.specs.Unions.{named, groups_for, doubled, filled, Unions
 pub const ENTRIES: usize = 128;
 
 // The first `size` entries are followed by the same entries with the value besides; the others stay.
+#[tactic(auto, using(relations::proofs::Rows::changed_none))]
 fn double(entries: &mut [u64], size: usize, value: u64)
     requires { (size ≤ 8) × (size + size ≤ length entries.old) }
     ensures { entries.new ≡ doubled entries.old size value }
@@ -32,6 +33,7 @@ fn fill_four(entries: &mut [u64], values: &[u64])
 }
 
 // The number of groups of four that n values are held in.
+#[tactic(auto, using(crate::proofs::UnionTables::groups_where_n))]
 pub fn groups_for(n: usize) -> usize
     ensures groups { result ≡ groups_for n }
     ensures few { result ≤ 8 }
@@ -46,6 +48,7 @@ pub fn groups_for(n: usize) -> usize
 }
 
 // The entries become the unions of the choices of so many groups of four values, group after group; the entries behind stay.
+#[tactic(auto, using(crate::proofs::UnionTables::filled_none, crate::proofs::UnionTables::filled_more))]
 pub fn fill(table: &mut [u64], values: &[u64], groups: usize)
     requires { (groups ≤ 8) × (groups * 16 ≤ length table.old) × (groups * 4 ≤ length values.now) }
     ensures filled { table.new ≡ filled table.old values.now groups }
@@ -58,6 +61,7 @@ pub fn fill(table: &mut [u64], values: &[u64], groups: usize)
 
 // The union of the entries that the word names, by four of its bits in each of so many groups. How many is a constant, so that no loop is left: it
 // stands in the innermost loops.
+#[tactic(auto, using(crate::proofs::UnionTables::named_none, crate::proofs::UnionTables::named_more))]
 fn union_in<const GROUPS: usize>(table: &[u64], choice: u64) -> u64
     requires { (GROUPS ≤ 8) × (GROUPS * 16 ≤ length table.now) }
     ensures { (q : ℕ) → bit result q ≡ named table.now GROUPS choice q }
@@ -71,6 +75,7 @@ fn union_in<const GROUPS: usize>(table: &[u64], choice: u64) -> u64
 
 // The union of the entries that the bits of the word name, in the groups that n values are held in; in a table of unions, the union of the
 // values that the word chooses.
+#[tactic(auto, using(crate::proofs::UnionTables::groups_where_n))]
 pub fn union(table: &[u64], n: usize, choice: u64) -> u64
     requires { 128 ≤ length table.now }
     ensures { (q : ℕ) → bit result q ≡ named table.now (groups_for n) choice q }

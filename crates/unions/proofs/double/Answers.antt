@@ -1,15 +1,12 @@
 -- `unions::double` meets its contract: the entries before place size stay. Assumes nothing.
-use mathlib.Core.Path.{◌≡◌, sym, ap, ◌∙◌}
+use mathlib.Core.Path.{◌≡◌, ap, ◌∙◌}
 use mathlib.Core.List.{List}
 use Prim.Native.Nat.{ℕ, ◌+◌}
 use native.Mathlib.Omega.{arith}
 use lib.Bits.{bit_or}
 use lib.ListN.{get_or, set}
-use Rattle.relations.proofs.Rows.{changed_none, changed_more, changed_kept}
+use Rattle.relations.proofs.Rows.{changed_more, changed_kept}
 use Rattle.unions.proofs.double.Goals as goal
-
-pub loop-m-init : goal.loop-m-init
-loop-m-init c = sym (changed_none _ _ _)
 
 pub loop-m-preserved : goal.loop-m-preserved
 loop-m-preserved c =
