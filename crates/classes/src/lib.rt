@@ -10,7 +10,10 @@ ghost use Rattle.slots.specs.Slots.{slot_count, max_slots, same_list, all_zero};
 ghost use Rattle.slots.specs.Bytes.{with_slot};
 ghost use Rattle.classes.specs.Classes.{counters_at, class_of, eight_from, key_from, key_of, keys, empty_index, Chained, Classes, class_at, listed_in, index_after};
 
+mod edge;
+
 use automaton::MAX_STATES;
+pub use edge::Edge;
 use slots::{MAX_SLOTS, SLOT_SIZE, Vertex};
 
 // The number of keys.
@@ -24,6 +27,20 @@ pub struct Index {
     pub heads: [u16; KEYS],
     pub nexts: [u16; MAX_SLOTS],
     pub listed: [u32; MAX_SLOTS],
+}
+
+// What a slot is to hold: a vertex, and the edge by which it was found.
+#[derive(Clone, Copy)]
+pub struct Slot {
+    pub vertex: Vertex,
+    pub edge: Edge,
+}
+
+// The class of counters by number, 1 + the slot that leads it, and 0 where no slot has them; and their key.
+#[derive(Clone, Copy)]
+pub struct Class {
+    pub key: usize,
+    pub number: usize,
 }
 
 // Eight counters, from number i on, as one number. So written it is one load.
@@ -140,39 +157,32 @@ impl Index {
         targets ^ (targets & self.listed[class - 1])
     }
 
-    // Slot n, with this key and this left state, joins the class, or leads one where the class is 0.
-    fn join(&mut self, n: usize, left: usize, key: usize, class: usize)
-        requires { (key < keys) × (n < max_slots) × (class ≤ n) × (left < max_states) }
-        ensures { self.new ≡ index_after self.old class left key n }
+    // Slot n, with this left state, joins the class, or leads one where the number is 0.
+    fn join(&mut self, n: usize, left: usize, class: Class)
+        requires { (class.key < keys) × (n < max_slots) × (class.number ≤ n) × (left < max_states) }
+        ensures { self.new ≡ index_after self.old class.number left class.key n }
     {
-        if class == 0 {
-            self.nexts[n] = self.heads[key];
-            self.heads[key] = (n + 1) as u16;
+        if class.number == 0 {
+            self.nexts[n] = self.heads[class.key];
+            self.heads[class.key] = (n + 1) as u16;
             self.listed[n] = relations::with_state(0, left);
         } else {
-            self.nexts[n] = class as u16;
-            self.listed[class - 1] = relations::with_state(self.listed[class - 1], left);
+            let leader = class.number - 1;
+            self.nexts[n] = class.number as u16;
+            self.listed[leader] = relations::with_state(self.listed[leader], left);
         }
     }
 
-    // Writes the next free slot, n, and puts it into the index: its counters have this key and this class.
-    pub fn append(
-        &mut self,
-        work: &mut [u8],
-        n: usize,
-        v: Vertex,
-        letter: u8,
-        parent: usize,
-        key: usize,
-        class: usize,
-    )
-        requires { (n < slot_count (length work.old)) × (parent < 65536) × (v.left < max_states) × (key ≡ key_of v.counters) × (key < keys)
-            × Classes work.old self.old n × (class ≡ class_of work.old v.counters n) }
-        ensures bytes { work.new ≡ with_slot work.old n v letter parent }
-        ensures index { self.new ≡ index_after self.old class v.left key n }
+    // Writes the next free slot, n, and puts it into the index by the class of its counters.
+    pub fn append(&mut self, work: &mut [u8], n: usize, slot: Slot, class: Class)
+        requires { (n < slot_count (length work.old)) × (slot.vertex.left < max_states)
+            × (class.key ≡ key_of slot.vertex.counters) × (class.key < keys) × Classes work.old self.old n
+            × (class.number ≡ class_of work.old slot.vertex.counters n) }
+        ensures bytes { work.new ≡ with_slot work.old n slot.vertex slot.edge.letter slot.edge.parent }
+        ensures index { self.new ≡ index_after self.old class.number slot.vertex.left class.key n }
         ensures classes { Classes work.new self.new (n + 1) }
     {
-        slots::write_slot(work, n, v, letter, parent);
-        self.join(n, v.left as usize, key, class);
+        slots::write_slot(work, n, slot.vertex, slot.edge.letter, slot.edge.parent);
+        self.join(n, slot.vertex.left as usize, class);
     }
 }

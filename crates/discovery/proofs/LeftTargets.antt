@@ -26,8 +26,10 @@ use Rattle.graph.specs.Discovery.{Node, Walk, going, below, discover, discover_a
 use Rattle.graph.specs.LagGraph.{lag_graph}
 use Rattle.graph.proofs.Unlisted.{discover_unlisted}
 use Rattle.discovery.specs.declared.Stop.{Stop}
+use Rattle.discovery.specs.declared.listed.Listed.{Listed}
 use Rattle.discovery.specs.declared.sides.Sides.{Sides}
 use Rattle.discovery.specs.Representation.{vertex_of, Represents, Becomes, Takes, Grows, ClassKnown, side_of, counters_to, SideReady, TargetReady, SidesReady}
+use Rattle.discovery.specs.Lists.{Grown}
 use Rattle.discovery.proofs.RepresentedSlots.{listed_represented}
 use Rattle.discovery.proofs.FoldLoops.{FoldLoops, onward_next, onward_stop, onward_end}
 
@@ -44,6 +46,17 @@ grows_on work n work' m work'' r G H =
     record {
       slots = λ s k. H.slots s (omega arith) ∙ G.slots s k;
       no_fewer = IfOk-weaker r (λ x. m ≤ x) (λ x. n ≤ x) (λ x k. omega arith) H.no_fewer;
+    }
+
+pub grown_none : (l : Listed) → Grown l l
+grown_none l = record { same_buffer = refl; same_index = refl; grows = grows_none l.work.now l.count }
+
+pub grown_on : (l m k : Listed) → Grown l m → Grown m k → Grown l k
+grown_on l m k G H =
+    record {
+      same_buffer = H.same_buffer ∙ G.same_buffer;
+      same_index = H.same_index ∙ G.same_index;
+      grows = grows_on l.work.now l.count m.work.now m.count k.work.now (Ok k.count) G.grows H.grows;
     }
 
 -- A vertex has taken slot n: what is known of classes and of listed states.

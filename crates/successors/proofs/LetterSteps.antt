@@ -2,10 +2,9 @@
 -- listed with the class of these counters is a set, and the targets that are in it can be left out. Assumes nothing.
 use mathlib.Core.Path.{◌≡◌, refl, sym, ◌∙◌, ap, ap₂, subst}
 use mathlib.Core.Bool.{Bool, true, false, cond, ◌&&◌, ◌||◌, not, true≢false}
-use mathlib.Core.Logic.{◌≢◌}
 use mathlib.Core.List.{List, [], ◌∷◌, map}
-use Prim.Native.Nat.{ℕ, zero, suc, ◌+◌, ◌*◌, ◌%◌, ◌^◌, ◌≤◌, ◌<◌}
-use native.Mathlib.Nat.{add-zero, mul-le-mul_right, suc-mul, div-eq_of_lt, pow-le-pow_right}
+use Prim.Native.Nat.{ℕ, zero, suc, ◌+◌, ◌%◌, ◌^◌, ◌≤◌, ◌<◌}
+use native.Mathlib.Nat.{add-zero, div-eq_of_lt, pow-le-pow_right}
 use native.Mathlib.Omega.{arith}
 use borrow.Author.Tests.{ltb-true, ltb-false, le-ltb, ne_eqb}
 use lib.Bits.{bit_and, bit_xor}
@@ -14,7 +13,8 @@ use lib.ListN.{length, get_or, set, length-set}
 use lib.Seq.{get_or-set_same, get_or-set_other}
 use Rattle.std.specs.Prelude.{Result, Ok}
 use Rattle.automaton.specs.declared.Automaton.{Automaton}
-use Rattle.automaton.specs.Automata.{max_states, one, transition_bit, transition, targets, InRange}
+use Rattle.automaton.specs.Automata.{max_states, one, transition_bit, transition, targets}
+use Rattle.automaton.specs.Members.{transition_in}
 use Rattle.automaton.specs.Ranges.{those}
 use Rattle.automaton.specs.Sets.{bit}
 use Rattle.automaton.proofs.Booleans.{clash}
@@ -22,7 +22,7 @@ use Rattle.automaton.proofs.Ranges.{length-table}
 use Rattle.automaton.proofs.Bits.{bit_of_and, bit_zero}
 use Rattle.automaton.proofs.Members.{those_same}
 use Rattle.slots.specs.declared.Vertex.{Vertex}
-use Rattle.slots.specs.Slots.{slot_count, same_vertex, same_list}
+use Rattle.slots.specs.Slots.{slot_count, max_slots, same_vertex, same_list}
 use Rattle.classes.specs.declared.Index.{Index}
 use Rattle.classes.specs.Classes.{class_of, listed_with, listed_in, Joined}
 use Rattle.classes.proofs.Leaders.{class_le}
@@ -30,7 +30,6 @@ use Rattle.classes.proofs.ListedStates.{other, bit_of_xor, class_listed}
 use Rattle.graph.specs.Discovery.{Walk, going, below, discover_all}
 use Rattle.graph.specs.LagGraph.{stepped, successor, lag_graph}
 use Rattle.graph.proofs.Unlisted.{discover_unlisted}
-use Rattle.step.specs.Masks.{row_place}
 use Rattle.step.specs.Steps.{stepped_counters, counters_on}
 use Rattle.step.proofs.SteppedBytes.{transition_in_range}
 use Rattle.step.proofs.Steps.{counters_on_lem}
@@ -39,24 +38,18 @@ use Rattle.discovery.specs.declared.sides.Sides.{Sides}
 use Rattle.discovery.specs.Representation.{vertex_of, side_of, Represents, Becomes, counters_to, SidesReady}
 use Rattle.discovery.proofs.RepresentedSlots.{listed_represented}
 use Rattle.discovery.proofs.LeftTargets.{states_none}
-use Rattle.kept.specs.Kept.{KeptStep}
+use Rattle.discovery.specs.declared.listed.Listed.{Listed}
+use Rattle.successors.specs.declared.Step.{Step}
+use Rattle.successors.specs.declared.rules.Rules.{Rules}
 use Rattle.successors.specs.Rules.{RulesOf}
 use Rattle.successors.specs.Targets.{TargetsUnlisted, Known}
-
--- the successors on letter a
-abbrev pub edges_on : Automaton → Automaton → ℕ → Vertex → ℕ → List (ℕ × Vertex)
-edges_on A B b v a = map (successor A B b v a) (targets A v.left a)
+use Rattle.successors.specs.Steps.{edges_on, StepKept}
 
 -- the answer r and the work buffer are those of the successors on letter a
 abbrev pub LetterDone : Automaton → Automaton → ℕ → Vertex → ℕ → ℕ → List ℕ → ℕ → List ℕ → Result ℕ Stop → Type 0
 LetterDone A B b v a p before n work r = Becomes before n work r (λ S w. discover_all (lag_graph A B b) (below S) p w (edges_on A B b v a))
 
 -- Numbers.
-
-pub rows_fit : (letter letters states len : ℕ) → letter < letters → row_place states letters 0 ≤ len → row_place states letter states ≤ len
-rows_fit letter letters states len h l =
-    let k : suc letter * states ≤ letters * states = mul-le-mul_right {m = suc letter} {n = letters} states (omega arith) in
-    omega (arith, suc-mul letter states)
 
 bit_past : (w t : ℕ) → w < 2 ^ 32 → 32 ≤ t → bit w t ≡ false
 bit_past w t h l =
@@ -94,21 +87,24 @@ maps_same g h f (suc n) i e = go (f i) (maps_same g h f n (suc i) (λ k l u. e k
     go false q = q
 
 -- the counters on both sides of a step
-abbrev pub Lowered : List ℕ → List ℕ → ℕ → ℕ → List ℕ → List ℕ
-Lowered tops m n a f = counters_on tops m n a f 1
+abbrev pub Lowered : Rules → ℕ → List ℕ → List ℕ
+Lowered rules a f = counters_on rules.tops.now rules.masks.now rules.right.now.states a f 1
 
-abbrev pub Others : List ℕ → List ℕ → ℕ → ℕ → List ℕ → List ℕ
-Others tops m n a f = counters_on tops m n a f 0
+abbrev pub Others : Rules → ℕ → List ℕ → List ℕ
+Others rules a f = counters_on rules.tops.now rules.masks.now rules.right.now.states a f 0
 
-module _ (accepting : ℕ) (tops masks : List ℕ) (A B : Automaton) (b : ℕ) (L : InRange A) (R : RulesOf accepting tops masks A B b) (left letter : ℕ)
-    (counters : List ℕ) (targets-word : ℕ) (row : (r : ℕ) → r < 32 → bit targets-word r ≡ transition_bit A left letter r) (small : left < max_states)
-    (within : letter < A.letters) (bytes : (q : ℕ) → q < B.states → get_or counters q 0 < 256) (lowered others : List ℕ)
-    (low_is : lowered ≡ Lowered tops masks B.states letter counters) (other_is : others ≡ Others tops masks B.states letter counters) where
+module _ (rules : Rules) (A B : Automaton) (b : ℕ) (R : RulesOf rules A B b) (left letter : ℕ) (counters : List ℕ) (targets-word : ℕ)
+    (row : (r : ℕ) → r < 32 → bit targets-word r ≡ transition_bit rules.left.now left letter r) (small : left < max_states)
+    (within : letter < rules.left.now.letters) (bytes : (q : ℕ) → q < rules.right.now.states → get_or counters q 0 < 256) (lowered others : List ℕ)
+    (low_is : lowered ≡ Lowered rules letter counters) (other_is : others ≡ Others rules letter counters) where
   abbrev edge_to : ℕ → ℕ × Vertex
-  edge_to t = (letter, vertex_of t (side_of accepting lowered others t))
+  edge_to t = (letter, vertex_of t (side_of rules.accepting lowered others t))
 
   row_transition : (r : ℕ) → r < 32 → transition A left letter r ≡ bit targets-word r
-  row_transition r h = let l = L.few_letters in transition_in_range A L left letter r small (omega arith) h ∙ sym (row r h)
+  row_transition r h =
+      let l = rules.few_letters in
+      transition_in_range A R.in_range left letter r small (omega arith) h
+      ∙ sym (row r h ∙ ap (λ (l : List ℕ). transition_in l left letter r) R.lefts_are)
 
   no_state : (r : ℕ) → A.states ≤ r → transition A left letter r ≡ false
   unfolding transition
@@ -122,15 +118,16 @@ module _ (accepting : ℕ) (tops masks : List ℕ) (A B : Automaton) (b : ℕ) (
   all_targets : targets A left letter ≡ those (bit targets-word) max_states 0
   unfolding targets
   all_targets =
-      those_longer (transition A left letter) A.states max_states 0 L.few_states (λ k h l. no_state k (omega arith))
+      those_longer (transition A left letter) A.states max_states 0 R.in_range.few_states (λ k h l. no_state k (omega arith))
       ∙ those_same (transition A left letter) (bit targets-word) max_states 0 (λ k l h. row_transition k (omega arith))
 
-  side_counters : (t : ℕ) → t < max_states → (c : Bool) → bit accepting t ≡ c → stepped A B b letter t counters ≡ cond c lowered others
+  side_counters : (t : ℕ) → t < max_states → (c : Bool) → bit rules.accepting t ≡ c → stepped A B b letter t counters ≡ cond c lowered others
   side_counters t h c e =
-      sym (counters_on_lem A B b tops masks B.states A.letters R.right letter within L.few_letters counters bytes t)
-      ∙ ap (λ (x : Bool). counters_on tops masks B.states letter counters (one x)) (sym (R.accepting_is t h) ∙ e) ∙ go c
+      let n = rules.right.now.states in
+      sym (counters_on_lem A B b rules.tops.now rules.masks.now n rules.left.now.letters R.right letter within rules.few_letters counters bytes t)
+      ∙ ap (λ (x : Bool). counters_on rules.tops.now rules.masks.now n letter counters (one x)) (sym (R.accepting_is t h) ∙ e) ∙ go c
     where
-      go : (c : Bool) → counters_on tops masks B.states letter counters (one c) ≡ cond c lowered others
+      go : (c : Bool) → counters_on rules.tops.now rules.masks.now rules.right.now.states letter counters (one c) ≡ cond c lowered others
       go true = sym low_is
       go false = sym other_is
 
@@ -139,11 +136,11 @@ module _ (accepting : ℕ) (tops masks : List ℕ) (A B : Automaton) (b : ℕ) (
   letter_edges =
       ap (map (successor A B b (vertex_of left counters) letter)) all_targets
       ∙ maps_same (successor A B b (vertex_of left counters) letter) edge_to (bit targets-word) max_states 0
-      (λ t l h. ap (λ (cs : List ℕ). (letter, vertex_of t cs)) (side_counters t (omega arith) (bit accepting t) refl))
+      (λ t l h. ap (λ (cs : List ℕ). (letter, vertex_of t cs)) (side_counters t (omega arith) (bit rules.accepting t) refl))
 
   -- the targets that are not listed, discovered, make what all targets make
   module _ (p : ℕ) (work : List ℕ) (n left_out : ℕ)
-      (rest : (t : ℕ) → bit left_out t ≡ (bit targets-word t && not (listed_with work (side_of accepting lowered others t) n t))) where
+      (rest : (t : ℕ) → bit left_out t ≡ (bit targets-word t && not (listed_with work (side_of rules.accepting lowered others t) n t))) where
     apart : (t u : ℕ) → u < t → same_vertex (edge_to t).1 (edge_to u).1 ≡ false
     unfolding same_vertex
     apart t u h = ap (λ (c : Bool). c && same_list (edge_to t).1.counters (edge_to u).1.counters) (ne_eqb t u (λ e. omega arith))
@@ -170,37 +167,46 @@ module _ (accepting : ℕ) (tops masks : List ℕ) (A B : Automaton) (b : ℕ) (
 
 -- Classes of the counters on one side.
 
-pub known_small : (work cs : List ℕ) (n c : ℕ) → Known work cs n c → c ≤ n
-known_small work cs n zero K = omega arith
-known_small work cs n (suc s) K = let q = K s refl in omega (arith, class_le work cs n)
+pub known_small : (l : Listed) (cs : List ℕ) (c : ℕ) → Known l cs c → c ≤ max_slots
+known_small l cs zero K = omega arith
+known_small l cs (suc s) K = let q = K s refl in let r = l.ready.room in omega (arith, class_le l.work.now cs l.count)
 
 -- What is kept.
 
-module _ (tops m : List ℕ) (states : ℕ) (work : List ℕ) (n : ℕ) (kept : List ℕ) (at a : ℕ) (f : List ℕ) where
-  pub kept_low : KeptStep tops m states work n kept at a f → Known work (Lowered tops m states a f) n (get_or kept at 0)
-  kept_low S s e = S 0 s (omega arith) (ap (λ (i : ℕ). get_or kept i 0) (add-zero at) ∙ e)
+module _ (rules : Rules) (l : Listed) (kept : List ℕ) (v : Vertex) (step : Step) where
+  pub kept_low : StepKept rules l kept v step → Known l (Lowered rules step.edge.letter v.counters) (get_or kept step.at 0)
+  kept_low S s e = S 0 s (omega arith) (ap (λ (i : ℕ). get_or kept i 0) (add-zero step.at) ∙ e)
 
-  pub kept_other : KeptStep tops m states work n kept at a f → Known work (Others tops m states a f) n (get_or kept (at + 1) 0)
+  pub kept_other : StepKept rules l kept v step → Known l (Others rules step.edge.letter v.counters) (get_or kept (step.at + 1) 0)
   kept_other S s e = S 1 s (omega arith) e
 
   module _ (c d : ℕ) where
-    pub kept_places : (i : ℕ) → i ≢ at → i ≢ at + 1 → get_or (set (set kept at c) (at + 1) d) i 0 ≡ get_or kept i 0
-    kept_places i h g = get_or-set_other (set kept at c) (at + 1) i d 0 g ∙ get_or-set_other kept at i c 0 h
-
-    pub kept_both : at + 2 ≤ length kept → Known work (Lowered tops m states a f) n c → Known work (Others tops m states a f) n d
-        → KeptStep tops m states work n (set (set kept at c) (at + 1) d) at a f
-    kept_both fits C D zero s l e =
-        C s (sym (ap (λ (i : ℕ). get_or (set (set kept at c) (at + 1) d) i 0) (add-zero at)
-        ∙ get_or-set_other (set kept at c) (at + 1) at d 0 (λ q. omega arith) ∙ get_or-set_same kept at c 0 (omega arith)) ∙ e)
-    kept_both fits C D (suc zero) s l e =
-        D s (sym (get_or-set_same (set kept at c) (at + 1) d 0 (omega (arith, length-set kept at c))) ∙ e)
-    kept_both fits C D (suc (suc y)) s l e = absurd (omega arith)
+    pub kept_both : step.at + 2 ≤ length kept → Known l (Lowered rules step.edge.letter v.counters) c
+        → Known l (Others rules step.edge.letter v.counters) d → StepKept rules l (set (set kept step.at c) (step.at + 1) d) v step
+    kept_both fits C D zero s h e =
+        C s (sym (ap (λ (i : ℕ). get_or (set (set kept step.at c) (step.at + 1) d) i 0) (add-zero step.at)
+        ∙ get_or-set_other (set kept step.at c) (step.at + 1) step.at d 0 (λ q. omega arith) ∙ get_or-set_same kept step.at c 0 (omega arith)) ∙ e)
+    kept_both fits C D (suc zero) s h e =
+        D s (sym (get_or-set_same (set kept step.at c) (step.at + 1) d 0 (omega (arith, length-set kept step.at c))) ∙ e)
+    kept_both fits C D (suc (suc y)) s h e = absurd (omega arith)
 
 -- Targets that are listed.
 
-module _ (work : List ℕ) (index : Index) (n : ℕ) (J : Joined work index n) where
+module _ (l : Listed) where
+  abbrev work : List ℕ
+  work = l.work.now
+
+  abbrev index : Index
+  index = l.index.now
+
+  abbrev n : ℕ
+  n = l.count
+
+  J : Joined work index n
+  J = l.ready.index_is.joined
+
   -- where no target is left, the kept class of a side that has targets is known
-  pub none_left_low : (cs : List ℕ) (c d w v x t : ℕ) → Known work cs n c → TargetsUnlisted index c d w v x → bit x t ≡ false → t < max_states
+  pub none_left_low : (cs : List ℕ) (c d w v x t : ℕ) → Known l cs c → TargetsUnlisted index c d w v x → bit x t ≡ false → t < max_states
       → bit w t ≡ true → bit (listed_in index c) t ≡ listed_with work cs n t
   none_left_low cs zero d w v x t K W e l h = clash (W t ∙ go (bit w t) (bit v t && not (bit (listed_in index d) t)) h) e
     where
@@ -209,7 +215,7 @@ module _ (work : List ℕ) (index : Index) (n : ℕ) (J : Joined work index n) w
       go false z q = absurd (true≢false (sym q))
   none_left_low cs (suc s) d w v x t K W e l h = class_listed work index n J cs (suc s) t (sym (K s refl)) l
 
-  pub none_left_other : (cs : List ℕ) (c d w v x t : ℕ) → Known work cs n d → TargetsUnlisted index c d w v x → bit x t ≡ false → t < max_states
+  pub none_left_other : (cs : List ℕ) (c d w v x t : ℕ) → Known l cs d → TargetsUnlisted index c d w v x → bit x t ≡ false → t < max_states
       → bit v t ≡ true → bit (listed_in index d) t ≡ listed_with work cs n t
   none_left_other cs c zero w v x t K W e l h = clash (W t ∙ go (bit w t && not (bit (listed_in index c) t)) (bit v t) h) e
     where
@@ -290,16 +296,14 @@ module _ (work : List ℕ) (index : Index) (n : ℕ) (J : Joined work index n) w
         }
 
   -- where no target is left by the classes that are kept, all are listed
-  pub kept_left : (tops m : List ℕ) (states : ℕ) (kept : List ℕ) (at a : ℕ) (f : List ℕ) → KeptStep tops m states work n kept at a f
-      → (accepting tw x : ℕ) → tw < 2 ^ 32
-      → TargetsUnlisted index (get_or kept at 0) (get_or kept (at + 1) 0) (bit_and tw accepting) (bit_xor tw (bit_and tw accepting)) x → x ≡ 0
-      → (t : ℕ) → bit x t ≡ (bit tw t && not (listed_with work (side_of accepting (Lowered tops m states a f) (Others tops m states a f) t) n t))
-  kept_left tops m states kept at a f S accepting tw x small X z =
-      left_over tw accepting small (Lowered tops m states a f) (Others tops m states a f) (get_or kept at 0) (get_or kept (at + 1) 0) x X
-      (λ t l h.
-      none_left_low (Lowered tops m states a f) _ _ _ _ x t (kept_low tops m states work n kept at a f S) X (none t) l h)
-      (λ t l h.
-      none_left_other (Others tops m states a f) _ _ _ _ x t (kept_other tops m states work n kept at a f S) X (none t) l h)
+  pub kept_left : (rules : Rules) (kept : List ℕ) (v : Vertex) (step : Step) → StepKept rules l kept v step → (tw x : ℕ) → tw < 2 ^ 32
+      → TargetsUnlisted index (get_or kept step.at 0) (get_or kept (step.at + 1) 0) (bit_and tw rules.accepting)
+      (bit_xor tw (bit_and tw rules.accepting)) x → x ≡ 0 → (t : ℕ) → bit x t ≡ (bit tw t
+      && not (listed_with work (side_of rules.accepting (Lowered rules step.edge.letter v.counters) (Others rules step.edge.letter v.counters) t) n t))
+  kept_left rules kept v step S tw x small X z =
+      left_over tw rules.accepting small (Lowered rules step.edge.letter v.counters) (Others rules step.edge.letter v.counters) _ _ x X
+      (λ t h g. none_left_low _ _ _ _ _ x t (kept_low rules l kept v step S) X (none t) h g)
+      (λ t h g. none_left_other _ _ _ _ _ x t (kept_other rules l kept v step S) X (none t) h g)
     where
       none : (t : ℕ) → bit x t ≡ false
       none t = ap (λ (y : ℕ). bit y t) z ∙ bit_zero t

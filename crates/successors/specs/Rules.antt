@@ -1,15 +1,16 @@
 -- What the code holds of the two automata of a walk, for its contracts.
---   RulesOf        the word of accepting states, the tops and the masks are those of the automata A and B at the bound b, with masks for each
---                  letter of A
+--   RulesOf        the rules, the tops, the left transitions and the masks are those of the automata A and B at the bound b
 -- Shown by `rules_hold` of the walk. Assumes nothing.
-use Rattle.std.specs.Prelude.{◌≡◌, List, ℕ, ◌<◌, ◌≤◌, length}
+use Rattle.std.specs.Prelude.{◌≡◌, ℕ, ◌<◌}
 use Rattle.automaton.specs.declared.Automaton.{Automaton}
-use Rattle.automaton.specs.Automata.{max_states, accepts}
+use Rattle.automaton.specs.Automata.{max_states, accepts, InRange}
 use Rattle.automaton.specs.Sets.{bit}
-use Rattle.step.specs.Masks.{row_place}
 use Rattle.step.specs.Steps.{RightRules}
+use Rattle.successors.specs.declared.rules.Rules.{Rules}
 
-pub record RulesOf (accepting : ℕ) (tops masks : List ℕ) (A B : Automaton) (b : ℕ) : Type 0 where
-  pub accepting_is : (q : ℕ) → q < max_states → bit accepting q ≡ accepts A q
-  pub right : RightRules tops masks B.states A.letters b B
-  pub room : row_place B.states A.letters 0 ≤ length masks
+pub record RulesOf (rules : Rules) (A B : Automaton) (b : ℕ) : Type 0 where
+  pub letters_are : rules.left.now.letters ≡ A.letters
+  pub accepting_is : (q : ℕ) → q < max_states → bit rules.accepting q ≡ accepts A q
+  pub lefts_are : rules.left.now.transitions ≡ A.transitions
+  pub in_range : InRange A
+  pub right : RightRules rules.tops.now rules.masks.now rules.right.now.states rules.left.now.letters b B

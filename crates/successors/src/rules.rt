@@ -1,17 +1,20 @@
-// What a walk needs of its two automata.
-ghost use Rattle.successors.specs.Rules.{RulesOf};
+// What a step on a letter needs of two automata.
+ghost use Rattle.std.specs.Prelude.{◌≤◌, length};
+ghost use Rattle.automaton.specs.Automata.{max_states, max_letters};
+ghost use Rattle.step.specs.Masks.{row_place};
 
-use automaton::Valid;
+use automaton::Automaton;
 
-// The two automata of a walk and its bound, the accepting states of the left one as a set in a word, what each state of the right one is
-// raised to, and the masks of the right one's transitions.
+// Two automata, the accepting states of the left one as a set in a word, what each state of the right one is raised to, and bytes for the masks
+// of the right one's transitions on the left one's letters.
 #[derive(Clone, Copy)]
 pub struct Rules<'a> {
-    pub left: Valid<'a>,
-    pub right: Valid<'a>,
-    pub bound: usize,
+    pub left: &'a Automaton,
+    pub right: &'a Automaton,
     pub accepting: u32,
     pub tops: &'a [u8; 32],
     pub masks: &'a [u8],
-    pub ghost rules_of: { RulesOf accepting tops.now masks.now left.automaton.now right.automaton.now bound },
+    pub ghost few_letters: { left.now.letters ≤ max_letters },
+    pub ghost few_states: { right.now.states ≤ max_states },
+    pub ghost room: { row_place right.now.states left.now.letters 0 ≤ length masks.now },
 }

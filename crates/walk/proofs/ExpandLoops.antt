@@ -21,7 +21,8 @@ use Rattle.discovery.specs.declared.Stop.{Stop}
 use Rattle.discovery.specs.Representation.{Represents, Becomes}
 use Rattle.discovery.proofs.RepresentedSlots.{slot_represented}
 use Rattle.discovery.proofs.FoldLoops.{represented_going, FoldLoops, onward_next, onward_stop, onward_end}
-use Rattle.successors.proofs.LetterSteps.{edges_on, LetterDone}
+use Rattle.successors.specs.Steps.{edges_on}
+use Rattle.successors.proofs.LetterSteps.{LetterDone}
 
 -- The letters on which a place is expanded.
 

@@ -31,6 +31,7 @@ use Rattle.discovery.specs.declared.Stop.TheVariants.{Final, Full}
 use Rattle.discovery.specs.Representation.{Represents, Ready}
 use Rattle.discovery.proofs.RepresentedSlots.{represented_none, ready_none, ready_with_slot, discover_final, discover_full, discover_with_slot}
 use Rattle.discovery.proofs.FoldLoops.{represented_going}
+use Rattle.successors.specs.declared.rules.Rules.{Rules}
 use Rattle.successors.specs.Rules.{RulesOf}
 use Rattle.walk.proofs.ExpandLoops.{PlacesDone, stopped_expand_all}
 
@@ -46,14 +47,24 @@ pub few_pairs : (A B : Automaton) → InRange A → InRange B → A.letters * B.
 few_pairs A B R Q = mul-le-mul {n₁ = A.letters} {m₁ = B.states} {n₂ = 16} {m₂ = 32} R.few_letters Q.few_states
 
 -- what the code makes of the two automata
-pub rules_hold : (A B : Automaton) (b : ℕ) → InRange A → InRange B → (accepting : ℕ) → ((q : ℕ) → q < 32 → bit accepting q ≡ member A.accepting q)
-    → (tops m masks : List ℕ) → tops ≡ tops_of B.accepting (b + 1) → A.letters * B.states * max_states ≤ length m → length masks ≡ length m
-    → masks ≡ masks_after B.transitions B.states A.letters m → RulesOf accepting tops masks A B b
-rules_hold A B b R Q accepting acc tops m masks t fits long made =
+pub rules_hold : (rules : Rules) (b : ℕ) → InRange rules.left.now → InRange rules.right.now
+    → ((q : ℕ) → q < 32 → bit rules.accepting q ≡ member rules.left.now.accepting q) → rules.tops.now ≡ tops_of rules.right.now.accepting (b + 1)
+    → (m : List ℕ) → rules.left.now.letters * rules.right.now.states * max_states ≤ length m
+    → rules.masks.now ≡ masks_after rules.right.now.transitions rules.right.now.states rules.left.now.letters m
+    → RulesOf rules rules.left.now rules.right.now b
+rules_hold rules b R Q acc t m fits made =
+    let B = rules.right.now in
     record {
-      accepting_is = λ q h. acc q h ∙ sym (accepts_in_range A R q h);
-      right = record { tops_are = t; states_are = refl; masks_are = masks_after_lem B.transitions B.states m A.letters masks fits made; in_range = Q };
-      room = omega arith;
+      letters_are = refl;
+      accepting_is = λ q h. acc q h ∙ sym (accepts_in_range rules.left.now R q h);
+      lefts_are = refl;
+      in_range = R;
+      right = record {
+        tops_are = t;
+        states_are = refl;
+        masks_are = masks_after_lem B.transitions B.states m rules.left.now.letters rules.masks.now fits made;
+        in_range = Q;
+      };
     }
 
 module _ (A B : Automaton) (b : ℕ) (first : Vertex) (is : first ≡ initial_vertex A B b) (work : List ℕ) where

@@ -1,88 +1,123 @@
 // The walk of the lag-checking graph: the discovery list, its vertices written into the slots of the work buffer.
 #![tactic(auto)]
 
-ghost use Rattle.std.specs.Prelude.{◌≡◌, false, ℕ, ◌<◌, ◌≤◌, length, IfOk};
+ghost use Rattle.std.specs.Prelude.{◌≡◌, false, ◌*◌, ◌<◌, ◌≤◌, length};
+ghost use Rattle.automaton.specs.Automata.{max_states};
 ghost use Rattle.slots.specs.Slots.{slot_count, all_zero};
 ghost use Rattle.slots.specs.Bytes.{Falls};
 ghost use Rattle.graph.specs.Discovery.{below, expand as expanding, expand_all as expanding_all};
 ghost use Rattle.graph.specs.LagGraph.{max_bound, initial_vertex};
 ghost use Rattle.graph.specs.Walks.{walk_of, work_after, word_after};
-ghost use Rattle.discovery.specs.Representation.{walked_of, Represents, Becomes, Ready};
-ghost use Rattle.successors.specs.Steps.{graph_of, LinesKept};
+ghost use Rattle.discovery.specs.Representation.{walked_of, Represents};
+ghost use Rattle.discovery.specs.Lists.{Makes, Grown};
+ghost use Rattle.successors.specs.Steps.{LinesKept};
+ghost use Rattle.walk.specs.Pairs.{graph_of};
 ghost use Rattle.walk.specs.FinalWord.{final_word_in};
 
-use automaton::Valid;
-use classes::Index;
-use discovery::{Edge, Stop};
-use kept::Kept;
-use slots::Vertex;
-use successors::Rules;
+mod pair;
 
-// Expands place p: all successors of its vertex, letters upwards, left targets upwards. The answer is the number of vertices listed.
-fn expand(
-    rules: &Rules,
-    work: &mut [u8],
-    index: &mut Index,
-    kept: &mut Kept,
-    n: usize,
-    p: usize,
-) -> Result<usize, Stop>
-    requires { Ready work.old index.old n × (p < n) × LinesKept rules.now work.old n kept.old }
-    ensures represents { Becomes work.old n work.new result (λ S. expanding (graph_of rules.now) (below S) p) }
-    ensures ready { IfOk result (λ m. Ready work.new index.new m × LinesKept rules.now work.new m kept.new) }
+use automaton::Valid;
+use classes::{Class, Edge, Index, Slot};
+use discovery::{Listed, Stop};
+use kept::Kept;
+use pair::Pair;
+use slots::Vertex;
+use successors::{Rules, Source, Step};
+
+// Expands place p: all successors of its vertex, letters upwards, left targets upwards.
+fn expand(pair: &Pair, listed: &mut Listed, kept: &mut Kept, p: usize) -> Result<(), Stop>
+    requires { (p < listed.old.count) × LinesKept pair.now.rules listed.old kept.old }
+    ensures represents { Makes listed.old listed.new result (λ S. expanding (graph_of pair.now) (below S) p) }
+    ensures grows { Grown listed.old listed.new }
+    ensures lines { LinesKept pair.now.rules listed.new kept.new }
 {
-    let line = kept.line_of(index.class_at(p));
-    let v = slots::load(work, p);
-    let present = step::present::present_of(v.counters, rules.right.automaton.states);
-    let mut count = n;
-    for letter in 0..rules.left.automaton.letters {
+    let line = kept.line_of(listed.class_at(p));
+    let vertex = listed.vertex(p);
+    let present = step::present::present_of(vertex.counters, pair.rules.right.states);
+    let source = Source { vertex, present };
+    for letter in 0..pair.rules.left.letters {
         let edge = Edge {
             letter: letter as u8,
             parent: p,
         };
-        let at = line + letter * 2;
-        count = successors::expand_letter(
-            rules,
-            work,
-            index,
-            &mut kept.lines,
-            count,
+        let step = Step {
             edge,
-            &v,
-            &present,
-            at,
-        )?;
+            at: line + letter * 2,
+        };
+        successors::expand_letter(&pair.rules, listed, &mut kept.lines, &source, step)?;
     }
-    Ok(count)
+    Ok(())
 }
 
-// Expands all places, from place 0 on, those that are listed meanwhile too. The answer is the number of vertices listed. No `for`, which would
-// take that number at its start.
-fn expand_all(rules: &Rules, work: &mut [u8], index: &mut Index, n: usize) -> Result<usize, Stop>
-    requires { Ready work.old index.old n }
-    ensures { Becomes work.old n work.new result (λ S. expanding_all (graph_of rules.now) (below S) S 0) }
+// Expands all places, from place 0 on, those that are listed meanwhile too. No `for`, which would take their number at its start.
+fn expand_all(pair: &Pair, listed: &mut Listed) -> Result<(), Stop>
+    ensures represents { Makes listed.old listed.new result (λ S. expanding_all (graph_of pair.now) (below S) S 0) }
+    ensures grows { Grown listed.old listed.new }
 {
     let mut kept = Kept::new();
-    let mut count = n;
     let mut p = 0;
-    while p < count {
-        count = expand(rules, work, index, &mut kept, count, p)?;
+    while p < listed.count {
+        expand(pair, listed, &mut kept, p)?;
         p += 1;
     }
-    Ok(count)
+    Ok(())
 }
 
 // The walk from the initial vertex on, which is not final and for which there is a slot.
-fn walk_from(rules: &Rules, work: &mut [u8], first: Vertex) -> Result<usize, Stop>
-    requires { (first ≡ initial_vertex rules.now.left.automaton.now rules.now.right.automaton.now rules.now.bound)
+fn walk_from(pair: &Pair, work: &mut [u8], first: Vertex) -> Result<usize, Stop>
+    requires { (first ≡ initial_vertex pair.now.rules.left.now pair.now.rules.right.now pair.now.bound)
         × (all_zero first.counters ≡ false) × (0 < slot_count (length work.old)) }
     ensures { Represents work.new result work.old
-        (walk_of rules.now.left.automaton.now rules.now.right.automaton.now rules.now.bound (slot_count (length work.old))) }
+        (walk_of pair.now.rules.left.now pair.now.rules.right.now pair.now.bound (slot_count (length work.old))) }
 {
     let mut index = Index::empty();
-    let key = classes::key_of(&first.counters);
-    index.append(work, 0, first, slots::NO_LETTER, slots::NO_PARENT, key, 0);
-    expand_all(rules, work, &mut index, 1)
+    let class = Class {
+        key: classes::key_of(&first.counters),
+        number: 0,
+    };
+    let edge = Edge {
+        letter: slots::NO_LETTER,
+        parent: slots::NO_PARENT,
+    };
+    let slot = Slot {
+        vertex: first,
+        edge,
+    };
+    index.append(work, 0, slot, class);
+    let mut listed = Listed {
+        work,
+        index: &mut index,
+        count: 1,
+    };
+    expand_all(pair, &mut listed)?;
+    Ok(listed.count)
+}
+
+// The same of two automata at a bound, with room for so many masks.
+fn walk_with<const N: usize>(
+    left: Valid,
+    right: Valid,
+    bound: usize,
+    work: &mut [u8],
+    first: Vertex,
+) -> Result<usize, Stop>
+    requires { (bound ≤ max_bound) × (left.automaton.now.letters * right.automaton.now.states * max_states ≤ N) × (N ≤ 16384)
+        × (first ≡ initial_vertex left.automaton.now right.automaton.now bound)
+        × (all_zero first.counters ≡ false) × (0 < slot_count (length work.old)) }
+    ensures { Represents work.new result work.old
+        (walk_of left.entry.automaton.now right.entry.automaton.now bound (slot_count (length work.old))) }
+{
+    let tops = step::tops_of(right.automaton, (bound + 1) as u8);
+    let mut masks = [0u8; N];
+    step::masks::fill(&mut masks, right.automaton, left.automaton.letters);
+    let rules = Rules {
+        left: left.automaton,
+        right: right.automaton,
+        accepting: relations::of_bytes(&left.automaton.accepting),
+        tops: &tops,
+        masks: &masks,
+    };
+    walk_from(&Pair { rules, bound }, work, first)
 }
 
 // The walk of the lag-checking graph of two automata at a bound: the number of vertices listed, or why the list ends. The slots that it takes are
@@ -105,33 +140,10 @@ pub fn walk(left: Valid, right: Valid, bound: usize, work: &mut [u8]) -> Result<
     if slots::slot_count(work.len()) == 0 {
         return Err(Stop::Full(0));
     }
-    let letters = left.automaton.letters;
-    let accepting = relations::of_bytes(&left.automaton.accepting);
-    let tops = step::tops_of(right.automaton, (bound + 1) as u8);
-    if letters * right.automaton.states <= 64 {
-        let mut masks = [0u8; 2048];
-        step::masks::fill(&mut masks, right.automaton, letters);
-        let rules = Rules {
-            left,
-            right,
-            bound,
-            accepting,
-            tops: &tops,
-            masks: &masks,
-        };
-        return walk_from(&rules, work, first);
+    if left.automaton.letters * right.automaton.states <= 64 {
+        return walk_with::<2048>(left, right, bound, work, first);
     }
-    let mut masks = [0u8; 16384];
-    step::masks::fill(&mut masks, right.automaton, letters);
-    let rules = Rules {
-        left,
-        right,
-        bound,
-        accepting,
-        tops: &tops,
-        masks: &masks,
-    };
-    walk_from(&rules, work, first)
+    walk_with::<16384>(left, right, bound, work, first)
 }
 
 // Writes the word of a final vertex, which stands at a place and was found by a letter from the vertex at place parent, to the

@@ -9,11 +9,12 @@ use Rattle.classes.proofs.Index.append.Goals as goal
 pub join-requires : goal.join-requires
 join-requires c =
     let r = c.requires in
-    (r.4, omega arith, omega (arith, r.6, class_le c.args.work.now c.args.v.counters c.args.n), r.2)
+    (r.3, omega arith, omega (arith, r.5, class_le c.args.work.now c.args.slot.vertex.counters c.args.n), r.1)
 
 pub returns-clause-classes : goal.returns-clause-classes
 returns-clause-classes c =
     let a = c.args in
     let r = c.requires in
     rw (c.write_slot.ensures, c.join.ensures)
-    (classes_append a.work.now a.n a.v a.letter a.parent (slot_fits a.n _ r.0) (search rules) a.self.now a.key a.class r.5 r.3 r.4 (omega arith) r.6)
+    (classes_append a.work.now a.n a.slot.vertex a.slot.edge.letter a.slot.edge.parent (slot_fits a.n _ r.0) (search rules) a.self.now a.class.key a.class.number
+    r.4 r.2 r.3 (omega arith) r.5)

@@ -7,7 +7,7 @@ use borrow.Author.Tests.{eq-eqb}
 use lib.Dec.{eqb}
 use Rattle.automaton.proofs.Booleans.{clash}
 use Rattle.discovery.specs.Representation.{ClassKnown}
-use Rattle.discovery.proofs.class_now.Goals as goal
+use Rattle.discovery.proofs.listed.Listed.class_now.Goals as goal
 
 known_class : (class : ℕ) (sure : Bool) (c : ℕ) → ClassKnown class sure c → (sure || not (eqb class 0)) ≡ true → class ≡ c
 known_class class true c K e = K.where_sure refl
@@ -19,4 +19,4 @@ known_class zero false c K e = clash (eq-eqb 0 0 refl) (flip (eqb 0 0) e)
 known_class (suc s) false c K e = K.where_some s refl
 
 pub returns-then-sure-side : goal.returns-then-sure-side
-returns-then-sure-side c = known_class c.args.side.class c.args.sure _ c.requires.2 c.if-sure-side.true
+returns-then-sure-side c = known_class c.args.side.class c.args.sure _ c.requires c.if-sure-side.true
