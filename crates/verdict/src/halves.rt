@@ -6,6 +6,7 @@ ghost use Rattle.automaton.specs.Sets.{bit};
 pub const HALF: u64 = 1 << 32;
 
 // Bits 0 to 31.
+#[tactic(auto, using(crate::proofs::HalfWords::low_half))]
 pub fn low(pair: u64) -> u32
     ensures { (q : ℕ) → q < 32 → bit result q ≡ bit pair q }
 {
@@ -13,6 +14,7 @@ pub fn low(pair: u64) -> u32
 }
 
 // Bits 32 to 63.
+#[tactic(auto, using(crate::proofs::HalfWords::high_half))]
 pub fn high(pair: u64) -> u32
     ensures { (q : ℕ) → bit result q ≡ bit pair (32 + q) }
 {

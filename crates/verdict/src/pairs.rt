@@ -12,6 +12,7 @@ use automaton::{Automaton, MAX_STATES, Valid};
 use std::array;
 
 // The pair of t for runs that begin one step before t: where t accepts, each of them is a visit.
+#[tactic(auto, using(crate::proofs::HalfWords::raised_low, crate::proofs::HalfWords::raised_high))]
 fn met(pair: u64, accepting: u32, t: usize) -> u64
     requires { t < 32 }
     ensures runs { (q : ℕ) → q < 32 → bit result q ≡ bit pair q }
@@ -35,6 +36,7 @@ fn met_pairs(valid: Valid, pairs: &[u64; MAX_STATES], after: &mut [u64; MAX_STAT
 }
 
 // The targets of p on the letter; there are none where the automaton lacks the letter.
+#[tactic(auto, using(crate::proofs::WordSets::bit_of_transition, crate::proofs::WordSets::no_letter_lem, automaton::proofs::Bits::bit_zero))]
 fn targets(valid: Valid, p: usize, letter: u8) -> u32
     requires { p < 32 }
     ensures { (q : ℕ) → q < 32 → bit result q ≡ transition valid.entry.automaton.now p letter q }

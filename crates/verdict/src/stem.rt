@@ -21,6 +21,7 @@ struct Unions<'a> {
 
 impl Unions<'_> {
     // The states that a transition on the letter reaches from a state of the set.
+    #[tactic(auto, using(crate::proofs::WordSets::letter_none))]
     fn on_letter(self, set: u64, letter: u8) -> u64
         ensures { let A = self.entry.valid.automaton.now in set_of A.states result ≡ on_letter A (set_of A.states set) letter }
     {
@@ -33,6 +34,7 @@ impl Unions<'_> {
     }
 
     // The states that a run on the word reaches from a state of the set.
+    #[tactic(auto, using(crate::proofs::WordSets::on_word_step, crate::proofs::WordSets::on_word_end))]
     fn on_word(self, set: u64, word: &[u8]) -> u64
         ensures { let A = self.entry.valid.automaton.now in set_of A.states result ≡ on_word A (set_of A.states set) word.now }
     {

