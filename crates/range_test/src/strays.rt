@@ -8,15 +8,15 @@ use automaton::{Automaton, MAX_LETTERS, MAX_STATES};
 
 // The states that a header with so many lacks.
 fn lacking(states: usize) -> u32
-    requires { states ≤ 32 }
     ensures { (r : ℕ) → r < 32 → bit result r ≡ not (ltb r states) }
 {
-    u32::MAX.checked_shl(states as u32).unwrap_or(0)
+    u32::MAX
+        .checked_shl(states.min(MAX_STATES) as u32)
+        .unwrap_or(0)
 }
 
 // Whether a state that the header lacks accepts.
 fn stray_state(automaton: &Automaton) -> bool
-    requires { automaton.now.states ≤ 32 }
     ensures { result ≡ some (stray_state automaton.now) 32 0 }
 {
     let accepting = relations::of_bytes(&automaton.accepting);
@@ -25,7 +25,6 @@ fn stray_state(automaton: &Automaton) -> bool
 
 // The states to which the header allows no transition from q on letter a.
 fn barred(automaton: &Automaton, q: usize, a: usize) -> u32
-    requires { automaton.now.states ≤ 32 }
     ensures { (r : ℕ) → r < 32 → bit result r ≡ not (ltb q automaton.now.states && ltb a automaton.now.letters && ltb r automaton.now.states) }
 {
     if (q < automaton.states) & (a < automaton.letters) {
@@ -37,7 +36,7 @@ fn barred(automaton: &Automaton, q: usize, a: usize) -> u32
 
 // Whether there is a transition from q on letter a that the header lacks.
 fn stray_on(automaton: &Automaton, q: usize, a: usize) -> bool
-    requires { (automaton.now.states ≤ 32) × (q < 32) × (a < 16) }
+    requires { (q < 32) × (a < 16) }
     ensures { result ≡ some (stray_transition automaton.now q a) 32 0 }
 {
     relations::meets(relations::row(automaton, q, a), barred(automaton, q, a))
@@ -46,7 +45,7 @@ fn stray_on(automaton: &Automaton, q: usize, a: usize) -> bool
 // Whether there is a transition from q that the header lacks. Every letter is tested: an `any`, which ends early, takes 4,490 instructions for
 // the range test of 32 states where this takes 1,620.
 fn stray_from(automaton: &Automaton, q: usize) -> bool
-    requires { (automaton.now.states ≤ 32) × (q < 32) }
+    requires { q < 32 }
     ensures { result ≡ some (λ a. some (stray_transition automaton.now q a) 32 0) 16 0 }
 {
     let mut found = false;
@@ -58,7 +57,6 @@ fn stray_from(automaton: &Automaton, q: usize) -> bool
 
 // Whether there is a transition that the header lacks.
 fn stray_transition(automaton: &Automaton) -> bool
-    requires { automaton.now.states ≤ 32 }
     ensures { result ≡ some (λ q. some (λ a. some (stray_transition automaton.now q a) 32 0) 16 0) 32 0 }
 {
     (0..MAX_STATES).any(|q| stray_from(automaton, q))
@@ -67,7 +65,6 @@ fn stray_transition(automaton: &Automaton) -> bool
 // Whether there is a state or a transition that the header lacks.
 #[tactic(auto, unfolding(automaton::specs::Automata::stray))]
 pub fn stray(automaton: &Automaton) -> bool
-    requires { automaton.now.states ≤ 32 }
     ensures { result ≡ stray automaton.now }
 {
     stray_state(automaton) || stray_transition(automaton)

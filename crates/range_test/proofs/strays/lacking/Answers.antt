@@ -2,7 +2,7 @@
 -- Assumes nothing.
 use mathlib.Core.Path.{◌≡◌, refl, sym, ap, ◌∙◌}
 use mathlib.Core.Bool.{Bool, true, false, not}
-use Prim.Native.Nat.{ℕ, ◌+◌, ◌*◌, ◌-◌, ◌/◌, ◌%◌, ◌^◌, ◌<◌}
+use Prim.Native.Nat.{ℕ, min, ◌+◌, ◌*◌, ◌-◌, ◌/◌, ◌%◌, ◌^◌, ◌<◌}
 use native.Mathlib.Nat.{lt_of_not-le}
 use native.Mathlib.Omega.{arith}
 use borrow.Author.Tests.{ltb-true, ltb-false, lt-ltb}
@@ -10,6 +10,7 @@ use lib.Dec.{ltb}
 use lib.Pow.{pow_pos}
 use Rattle.std.specs.Prelude.{Option, Some, None}
 use Rattle.std.specs.Option.{SomeIff, unwrap_or}
+use Rattle.std.proofs.Common.{rules, tests}
 use Rattle.std.proofs.lemmas.Nat.{div-add-mod'}
 use Rattle.automaton.specs.Sets.{bit}
 use Rattle.automaton.proofs.Bits.{bit_zero}
@@ -38,5 +39,11 @@ lacked : (o : Option ℕ) (n w r : ℕ) → SomeIff o (n < 32) (4294967295 * 2 ^
 lacked (Some v) n w r s e h = ap (λ (x : ℕ). bit x r) (e ∙ s.1) ∙ shifted n r h
 lacked None n w r s e h = ap (λ (x : ℕ). bit x r) e ∙ bit_zero r ∙ sym (ap not (lt-ltb r n (lt_of_not-le (λ l. s (omega arith)))))
 
+-- of a state below 32 it is the same whether it is below n or below the smaller of n and 32
+capped : (n r : ℕ) → r < 32 → ltb r (min n 32) ≡ ltb r n
+capped n r h = search (rules, tests)
+
 pub returns : goal.returns
-returns c r h = lacked c.checked_shl.result c.args.states c.unwrap_or.result r c.checked_shl.ensures c.unwrap_or.ensures h
+returns c r h =
+    lacked c.checked_shl.result c.min.result c.unwrap_or.result r c.checked_shl.ensures c.unwrap_or.ensures h
+    ∙ ap not (ap (ltb r) c.min.ensures ∙ capped c.args.states r h)
