@@ -6,6 +6,7 @@ ghost use Rattle.automaton.specs.Automata.{one, transition};
 use automaton::Automaton;
 
 // The number of targets of q on letter a.
+#[tactic(auto, using(automaton::proofs::Members::total_same, automaton::proofs::Members::transition_bit_lem))]
 fn targets(automaton: &Automaton, q: usize, a: usize) -> usize
     requires { (automaton.now.states ≤ 32) × (automaton.now.letters ≤ 16) × (q < automaton.now.states) × (a < automaton.now.letters) }
     ensures { (result ≡ total (λ r. one (transition automaton.now q a r)) automaton.now.states 0) × (result ≤ 32) }

@@ -16,6 +16,7 @@ fn lacking(states: usize) -> u32
 }
 
 // Whether a state that the header lacks accepts.
+#[tactic(auto, using(relations::proofs::Rows::some_same), unfolding(automaton::specs::Automata::stray_state))]
 fn stray_state(automaton: &Automaton) -> bool
     ensures { result ≡ some (stray_state automaton.now) 32 0 }
 {
@@ -24,6 +25,7 @@ fn stray_state(automaton: &Automaton) -> bool
 }
 
 // The states to which the header allows no transition from q on letter a.
+#[tactic(auto, using(crate::proofs::Words::bit_all))]
 fn barred(automaton: &Automaton, q: usize, a: usize) -> u32
     ensures { (r : ℕ) → r < 32 → bit result r ≡ not (ltb q automaton.now.states && ltb a automaton.now.letters && ltb r automaton.now.states) }
 {
@@ -35,6 +37,7 @@ fn barred(automaton: &Automaton, q: usize, a: usize) -> u32
 }
 
 // Whether there is a transition from q on letter a that the header lacks.
+#[tactic(auto, using(relations::proofs::Rows::some_same), unfolding(automaton::specs::Automata::stray_transition))]
 fn stray_on(automaton: &Automaton, q: usize, a: usize) -> bool
     requires { (q < 32) × (a < 16) }
     ensures { result ≡ some (stray_transition automaton.now q a) 32 0 }
@@ -44,6 +47,7 @@ fn stray_on(automaton: &Automaton, q: usize, a: usize) -> bool
 
 // Whether there is a transition from q that the header lacks. Every letter is tested: an `any`, which ends early, takes 4,490 instructions for
 // the range test of 32 states where this takes 1,620.
+#[tactic(auto, using(relations::proofs::Rows::some_none, relations::proofs::Rows::some_more))]
 fn stray_from(automaton: &Automaton, q: usize) -> bool
     requires { q < 32 }
     ensures { result ≡ some (λ a. some (stray_transition automaton.now q a) 32 0) 16 0 }
