@@ -29,6 +29,7 @@ fn in_bounds(entry: &Entry) -> bool
 }
 
 // Whether the entry is malformed; of an empty one no other field is examined.
+#[tactic(auto, using(history::proofs::EntryChecks::empty_not_malformed, history::proofs::EntryChecks::strays_malformed, history::proofs::EntryChecks::tested_in_range))]
 pub fn malformed(entry: &Entry) -> bool
     ensures { result ≡ malformed entry.now }
 {

@@ -7,7 +7,7 @@ use Rattle.automaton.specs.Automata.{max_states, in_range}
 use Rattle.deadstates.specs.DeadEnds.{has_dead}
 use Rattle.history.specs.declared.Entry.{Entry}
 use Rattle.history.specs.Entries.{max_edition, malformed}
-use Rattle.history.proofs.EntryChecks.{tested_in_range, empty_not_malformed, strays_malformed, dead_malformed, bounds_malformed}
+use Rattle.history.proofs.EntryChecks.{dead_malformed, bounds_malformed}
 use Rattle.conditions.proofs.malformed.Goals as goal
 
 -- the last two tests of a filled entry that is in range
@@ -16,18 +16,6 @@ last_tests : (E : Entry) (d b : Bool) → E.filled ≡ true → in_range E.held 
     → (d || not b) ≡ malformed E
 last_tests E true b f r d o = sym (dead_malformed E f (sym d))
 last_tests E false b f r d o = ap not o ∙ sym (bounds_malformed E f r (sym d))
-
-pub returns-then-not-entry : goal.returns-then-not-entry
-returns-then-not-entry c =
-    sym (empty_not_malformed c.args.entry.now c.if-not-entry.true)
-
-pub returns-then-not-in_range : goal.returns-then-not-in_range
-returns-then-not-in_range c =
-    sym (strays_malformed c.args.entry.now c.if-not-entry.false (sym c.in_range.ensures ∙ c.if-not-in_range.true))
-
-pub invariant_of-has_dead : goal.invariant_of-has_dead
-invariant_of-has_dead c =
-    record { in_range = tested_in_range c.args.entry.now.held (sym c.in_range.ensures ∙ c.if-not-in_range.false) }
 
 pub returns : goal.returns
 returns c =
