@@ -22,6 +22,7 @@ pub struct Header {
 }
 
 // Passes the token that the word spells.
+#[tactic(auto, using(crate::proofs::ItemLaws::expect_passed, crate::proofs::ItemLaws::expect_missed))]
 pub fn expect(scanner: &mut Scanner, word: &[u8]) -> Result<(), TextRefusal>
     ensures meaning { (go : ℕ → Step) → expect word.now scanner.old.text.now scanner.old.at go ≡ onward result (λ _. go scanner.new.at) }
     ensures ahead { IfOk result (λ _. Ahead (length word.now) scanner.old scanner.new) }
@@ -73,6 +74,7 @@ pub fn numbered(
 }
 
 // So many quoted names.
+#[tactic(auto, using(crate::proofs::ItemLaws::name_passed, crate::proofs::ItemLaws::no_names))]
 fn names(scanner: &mut Scanner, count: usize) -> Result<(), TextRefusal>
     ensures meaning { (go : ℕ → Step) → names count scanner.old.text.now scanner.old.at go ≡ onward result (λ _. go scanner.new.at) }
     ensures ahead { IfOk result (λ _. Ahead 0 scanner.old scanner.new) }
@@ -86,6 +88,7 @@ fn names(scanner: &mut Scanner, count: usize) -> Result<(), TextRefusal>
 }
 
 // `acc-name: Buchi`, which may be left out.
+#[tactic(auto, using(crate::proofs::ItemLaws::kind_missed))]
 fn acc_name(scanner: &mut Scanner) -> Result<(), TextRefusal>
     ensures meaning { (go : ℕ → Step) → acc_name_item scanner.old.text.now scanner.old.at go ≡ onward result (λ _. go scanner.new.at) }
     ensures ahead { IfOk result (λ _. Ahead 0 scanner.old scanner.new) }

@@ -20,7 +20,7 @@ pub fn transition_count(automaton: &Automaton) -> usize
 }
 
 // Whether the header values are those of a file, and only states and letters of the header are used.
-#[tactic(auto, using(automaton::proofs::InRange::header_values_iff, automaton::proofs::Booleans::is_true), unfolding(automaton::specs::Automata::in_range))]
+#[tactic(auto, unfolding(automaton::specs::Automata::in_range))]
 pub fn in_range(automaton: &Automaton) -> bool
     ensures { result ≡ in_range automaton.now }
 {
