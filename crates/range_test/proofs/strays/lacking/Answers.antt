@@ -46,4 +46,4 @@ capped n r h = search (rules, tests)
 pub returns : goal.returns
 returns c r h =
     lacked c.checked_shl.result c.min.result c.unwrap_or.result r c.checked_shl.ensures c.unwrap_or.ensures h
-    ∙ ap not (ap (ltb r) c.min.ensures ∙ capped c.args.states r h)
+    ∙ ap not (ap (ltb r) c.min.ensures ∙ capped c.args.count r h)
