@@ -1,4 +1,4 @@
-// The header of a Hanoi text, item by item. The crate `hanoi` says what an item is.
+// The header of a Hanoi text, item by item. The crate `hanoi` says what an item is. What the body is read by too is put inline, as in the scanner.
 #![tactic(auto)]
 
 ghost use Rattle.std.specs.Prelude.{◌≡◌, Bool, ◌&&◌, ℕ, ◌≤◌, ◌<◌, leb, ltb, length, IfOk};
@@ -22,6 +22,7 @@ pub struct Header {
 }
 
 // Passes the token that the word spells.
+#[inline(always)]
 #[tactic(auto, using(crate::proofs::ItemLaws::expect_passed, crate::proofs::ItemLaws::expect_missed))]
 pub fn expect(scanner: &mut Scanner, word: &[u8]) -> Result<(), TextRefusal>
     ensures meaning { (go : ℕ → Step) → expect word.now scanner.old.text.now scanner.old.at go ≡ onward result (λ _. go scanner.new.at) }
@@ -35,6 +36,7 @@ pub fn expect(scanner: &mut Scanner, word: &[u8]) -> Result<(), TextRefusal>
 }
 
 // Passes the number that stands here, if it is in the range; the others get the refusal.
+#[inline(always)]
 pub fn number_in(
     scanner: &mut Scanner,
     range: Range<usize>,
@@ -55,6 +57,7 @@ pub fn number_in(
 }
 
 // The same of the number behind the token that the word spells.
+#[inline(always)]
 pub fn numbered(
     scanner: &mut Scanner,
     word: &[u8],

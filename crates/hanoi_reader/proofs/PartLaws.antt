@@ -5,10 +5,10 @@ use mathlib.Core.Bool.{Bool, true, false, ◌&&◌, ◌||◌, not}
 use mathlib.Core.Logic.{⊎_elim}
 use mathlib.Core.List.Memᴰ
 use mathlib.Core.List.{List, [], ◌∷◌, Memᴰ}
-use Prim.Native.Nat.{ℕ, ◌/◌, ◌%◌, ◌^◌, ◌<◌}
+use Prim.Native.Nat.{ℕ, ◌+◌, ◌/◌, ◌%◌, ◌^◌, ◌<◌}
 use native.Mathlib.Omega.{arith}
 use lib.Dec.{T, eqb, leb, ltb, eqb→eq, eqb_refl}
-use lib.ListN.{length, replicate, get_or-replicate, length-set}
+use lib.ListN.{length, drop, replicate, get_or-replicate, length-set}
 use borrow.Author.Tests.{eq-eqb, ne_eqb}
 use Rattle.std.specs.Prelude.{Some, None, Result, Ok, Err}
 use Rattle.std.proofs.lemmas.Option.{none-some, same_Some}
@@ -18,11 +18,12 @@ use Rattle.automaton.specs.Automata.{max_states, bare, InRange}
 use Rattle.automaton.specs.Members.{with_member}
 use Rattle.automaton.proofs.Booleans.{or_cases, or_left, or_right, same_test}
 use Rattle.automaton.proofs.Bits.{bit_zero, member_with}
-use Rattle.tokens.specs.Tokens.{skip}
+use Rattle.tokens.specs.Tokens.{skip, touches, starts_with, stands}
 use Rattle.tokens.specs.declared.scanner.Scanner.{Scanner}
 use Rattle.tokens.specs.Scanners.{Ahead}
 use Rattle.tokens.specs.Places.{token_at}
-use Rattle.tokens.proofs.Places.{token_missed, token_taken}
+use Rattle.tokens.proofs.Places.{token_missed, token_taken, token_skip}
+use Rattle.tokens.proofs.Runs.{skip_skip}
 use Rattle.labels.specs.LabelReading.{label_at}
 use Rattle.labels.proofs.Below.{label_below, below_more}
 use Rattle.label_reader.specs.Truths.{answer_of}
@@ -30,7 +31,7 @@ use Rattle.label_reader.proofs.ReadTruths.{Reads, answer_some, answer_none}
 use Rattle.hanoi.specs.declared.TextRefusal.{TextRefusal}
 use Rattle.hanoi.specs.Words.{END, State, left_brace, zero_word, right_brace, left_bracket, right_bracket}
 use Rattle.hanoi.specs.Descriptions.{Part, declared, edge, Description, extended}
-use Rattle.hanoi.specs.Reading.{Step, over, next, refused, describes, expect, expect_number, check, is_declared, acceptance, declaration, state_at, edge_at, edge_of, end_at, part_at}
+use Rattle.hanoi.specs.Reading.{Step, over, next, refused, describes, outside, expect, expect_number, check, is_declared, acceptance, declaration, state_at, edge_at, edge_of, end_at, part_at}
 use Rattle.hanoi.specs.Meaning.{IsDescribed, with_letters, with_part, with_parts, automaton_of, PartWithin, WellFormed}
 use Rattle.hanoi.proofs.Described.{described}
 use Rattle.hanoi.proofs.ReadSteps.{declared_none, declared_state, declared_edge}
@@ -177,21 +178,36 @@ module _ {D : Description} {b : Body} {A : Automaton} (H : Held D b A) (s : List
           latest = sym g;
         }
 
--- What stands at a place, by what the calls for the words answered.
+-- What stands at place i, by what the calls for the words answered at place j, behind the white space in front.
 
-module _ (s : List ℕ) (i : ℕ) (D : Description) where
-  pub ended_part : (j : ℕ) → Some j ≡ token_at END s i → part_at s i D ≡ end_at s j D
+module _ (s : List ℕ) (i j : ℕ) (here : j ≡ skip s i) (D : Description) where
+  token_here : (w : List ℕ) → token_at w s j ≡ token_at w s i
+  token_here w = rw here (token_skip w s i)
+
+  expect_here : (w : List ℕ) (go : ℕ → Step) → expect w s i go ≡ expect w s j go
+  unfolding expect stands
+  expect_here w go =
+      let at : ℕ → Step = λ k. elim (starts_with w (drop k s) && not (touches s k)) [ true ↦ go (k + length w) | false ↦ outside ] in
+      rw here (sym (ap at (skip_skip s i)))
+
+  pub ended_part : (l : ℕ) → Some l ≡ token_at END s j → part_at s i D ≡ end_at s l D
   unfolding part_at
-  ended_part j e = let t = token_taken END s i j e in rw (part_at, t.0, t.1) refl
+  ended_part l e = let t = token_taken END s i l (e ∙ token_here END) in rw (part_at, t.0, t.1) refl
 
-  module _ (e : None ≡ token_at END s i) where
-    pub state_part : (j : ℕ) → Some j ≡ token_at State s i → part_at s i D ≡ state_at s j D
+  module _ (e : None ≡ token_at END s j) where
+    pub state_part : (l : ℕ) → Some l ≡ token_at State s j → part_at s i D ≡ state_at s l D
     unfolding part_at
-    state_part j f = let t = token_taken State s i j f in rw (part_at, token_missed END s i e, t.0, t.1) refl
+    state_part l f =
+        let t = token_taken State s i l (f ∙ token_here State) in
+        rw (part_at, token_missed END s i (e ∙ token_here END), t.0, t.1) refl
 
-    pub edge_part : None ≡ token_at State s i → part_at s i D ≡ expect left_bracket s i (λ j. edge_of s j D.parts D)
+    pub edge_part : None ≡ token_at State s j → part_at s i D ≡ expect left_bracket s j (λ l. edge_of s l D.parts D)
     unfolding part_at expect
-    edge_part f = rw (part_at, token_missed END s i e, token_missed State s i f) refl
+    edge_part f =
+        let a = token_missed END s i (e ∙ token_here END) in
+        let b = token_missed State s i (f ∙ token_here State) in
+        let c = expect_here left_bracket (λ l. edge_of s l D.parts D) in
+        rw (part_at, a, b) c
 
 -- what it comes to, from the scanner w on that moved on to y before the step
 module _ (D : Description) (b c : Body) (A : Automaton) (w y z : Scanner) where

@@ -113,6 +113,8 @@ impl Body {
         ensures { (D : Description) → Held D self.old automaton.old
             → Taken scanner.old D (part_at scanner.old.text.now scanner.old.at D) self.old scanner.new self.new automaton.new result }
     {
+        // White space is passed once, and not by each of the three words.
+        scanner.skip();
         if scanner.token(b"--END--") {
             scanner.skip();
             if scanner.at != scanner.text.len() {

@@ -12,14 +12,14 @@ use borrow.Author.Tests.{eq-eqb, ne_eqb, lt-ltb, le-ltb}
 use Rattle.std.specs.Prelude.{Some, None}
 use Rattle.std.proofs.lemmas.Option.{none-some, same_Some}
 use Rattle.tokens.specs.Tokens.{byte_at, skip, Number, none, number, number_at}
-use Rattle.tokens.specs.Places.{mark_at, capped}
+use Rattle.tokens.specs.Places.{byte_from, mark_at, capped}
 use Rattle.tokens.specs.declared.scanner.Scanner.{Scanner}
 use Rattle.tokens.specs.Scanners.{Ahead, Moved}
 use Rattle.tokens.proofs.Runs.{skip_end, byte_past}
-use Rattle.tokens.proofs.Places.{mark_missed, mark_taken}
+use Rattle.tokens.proofs.Places.{byte_missed, byte_taken}
 use Rattle.labels.specs.Labels.{Label, always, never, both, either, proposition, negation, proposition_mask, mask_of}
 use Rattle.labels.specs.LabelReading.{Found, absent, found, proposition_of, atom_at, operand_at, negated, closed, more, chain, conjunction, disjunction}
-use Rattle.labels.proofs.LabelSteps.{operand_bare, operand_bang, operand_paren, operand_atom, atom_t, atom_f, atom_other, number_skip}
+use Rattle.labels.proofs.LabelSteps.{operand_bare, operand_bang, operand_paren, operand_atom, atom_t, atom_f, atom_other}
 use Rattle.label_reader.specs.Truths.{answer_of}
 
 -- What an answer says of what was read.
@@ -129,7 +129,7 @@ module _ (s : List ℕ) (o : Operator) (f : ℕ → Found) where
             ap (λ (b : Bool). elim b [
               | true ↦ elim (part_of o s f (skip s j + 1)) [ absent ↦ absent | found M i ↦ more_of k (joined o c.label M) i ]
               | false ↦ found c.label j
-            ]) (ne_eqb (byte_at s (skip s j)) (mark_of o) (mark_missed (mark_of o) s j n))
+            ]) (ne_eqb (byte_at s (skip s j)) (mark_of o) (byte_missed (mark_of o) s (skip s j) n))
 
     -- one part more: what follows from behind it comes to the whole, or there is none and the whole is absent
     after : ℕ → Found → Found
@@ -146,7 +146,7 @@ module _ (s : List ℕ) (o : Operator) (f : ℕ → Found) where
       turned = go c.fuel c.enough c.onward
         where
           t : (byte_at s (skip s j) ≡ mark_of o) × (l ≡ skip s j + 1)
-          t = mark_taken (mark_of o) s j l e
+          t = byte_taken (mark_of o) s (skip s j) l e
 
           go : (k : ℕ) → length s ≤ j + k → more_of k c.label j ≡ whole → Turned l
           go zero h x =
@@ -225,35 +225,40 @@ module _ (o : Operator) (k d : ℕ) (x : Scanner) where
             moved = record { text = h.text ∙ a.text ∙ c.moved.text; forward = omega (arith, c.moved.forward, a.forward, h.forward) };
           }
 
--- Operands, of which l is the place behind a `!` or a `(`.
+-- Operands at place i, of which j is the place behind white space, and l that behind a `!` or a `(`.
 
-module _ (s : List ℕ) (k d i : ℕ) where
+module _ (s : List ℕ) (k d i j : ℕ) (here : j ≡ skip s i) where
+  pub operand_bare_here : d ≡ 0 → operand_at s k d i ≡ atom_at s k j
+  operand_bare_here e = rw here (operand_bare s k d i e)
+
   module _ (more : d ≡ 0 → ⊥) (l : ℕ) where
-    module _ (e : Some l ≡ mark_at 0x21 s i) where
+    module _ (e : Some l ≡ byte_from 0x21 s j) where
       operand_negated : operand_at s k d i ≡ negated (operand_at s k (d - 1) l)
       operand_negated =
-          let t = mark_taken 0x21 s i l e in
-          operand_bang s k d i more t.0 ∙ ap (λ j. negated (operand_at s k (d - 1) j)) (sym t.1)
+          let t = byte_taken 0x21 s j l e in
+          rw (t.1, here) (operand_bang s k d i more (ap (byte_at s) (sym here) ∙ t.0))
 
-      pub negated_some : (m j : ℕ) → Some (m, j) ≡ answer_of (operand_at s k (d - 1) l) → Some (65535 - m, j) ≡ answer_of (operand_at s k d i)
+      pub negated_some : (m n : ℕ) → Some (m, n) ≡ answer_of (operand_at s k (d - 1) l) → Some (65535 - m, n) ≡ answer_of (operand_at s k d i)
       unfolding mask_of
-      negated_some m j b =
-          let r = answer_some (operand_at s k (d - 1) l) m j b in
-          rw (operand_negated, r.read) (found_answer (negation r.label) (65535 - m) j (ap (λ n. 65535 - n) r.mask))
+      negated_some m n b =
+          let r = answer_some (operand_at s k (d - 1) l) m n b in
+          rw (operand_negated, r.read) (found_answer (negation r.label) (65535 - m) n (ap (λ x. 65535 - x) r.mask))
 
       pub negated_none : None ≡ answer_of (operand_at s k (d - 1) l) → None ≡ answer_of (operand_at s k d i)
       unfolding answer_of
       negated_none b = rw (operand_negated, answer_none (operand_at s k (d - 1) l) b) refl
 
-    pub operand_closed : Some l ≡ mark_at 0x28 s i → operand_at s k d i ≡ closed s (disjunction s (operand_at s k (d - 1)) l)
+    pub operand_closed : Some l ≡ byte_from 0x28 s j → operand_at s k d i ≡ closed s (disjunction s (operand_at s k (d - 1)) l)
     operand_closed e =
-        let t = mark_taken 0x28 s i l e in
-        operand_paren s k d i more t.0 ∙ ap (λ j. closed s (disjunction s (operand_at s k (d - 1)) j)) (sym t.1)
+        let t = byte_taken 0x28 s j l e in
+        rw (t.1, here) (operand_paren s k d i more (ap (byte_at s) (sym here) ∙ t.0))
 
-  pub operand_other : None ≡ mark_at 0x21 s i → None ≡ mark_at 0x28 s i → operand_at s k d i ≡ atom_at s k (skip s i)
-  operand_other e f = operand_atom s k d i (mark_missed 0x21 s i e) (mark_missed 0x28 s i f)
+  pub operand_other : None ≡ byte_from 0x21 s j → None ≡ byte_from 0x28 s j → operand_at s k d i ≡ atom_at s k j
+  operand_other e f =
+      let at : ℕ → ℕ = byte_at s in
+      rw here (operand_atom s k d i (λ q. byte_missed 0x21 s j e (ap at here ∙ q)) (λ q. byte_missed 0x28 s j f (ap at here ∙ q)))
 
-pub ruleset operand_steps = (operand_bare, negated_some, negated_none, operand_closed, operand_other)
+pub ruleset operand_steps = (operand_bare_here, negated_some, negated_none, operand_closed, operand_other)
 
 -- Parentheses, behind the label that x is.
 
@@ -266,13 +271,13 @@ module _ (s : List ℕ) (x : Found) where
     pub closed_some : (k : ℕ) → Some k ≡ mark_at 0x29 s j → Some (m, k) ≡ answer_of (closed s x)
     closed_some k b =
         let r = answer_some x m j e in
-        let t = mark_taken 0x29 s j k b in
+        let t = byte_taken 0x29 s (skip s j) k b in
         rw (r.read, eq-eqb (byte_at s (skip s j)) 0x29 t.0, t.1)
         (found_answer r.label m (skip s j + 1) r.mask)
 
     pub unclosed : None ≡ mark_at 0x29 s j → None ≡ answer_of (closed s x)
     unfolding answer_of
-    unclosed b = let r = answer_some x m j e in rw (r.read, ne_eqb (byte_at s (skip s j)) 0x29 (mark_missed 0x29 s j b)) refl
+    unclosed b = let r = answer_some x m j e in rw (r.read, ne_eqb (byte_at s (skip s j)) 0x29 (byte_missed 0x29 s (skip s j) b)) refl
 
 pub ruleset paren_steps = (closed_none, closed_some, unclosed)
 
@@ -310,34 +315,33 @@ module _ (k : ℕ) (x : Number) where
             let a : p ≡ min v 1000 = ap (λ c. c.0) (same_Some _ _ f) in
             rw (le-ltb v k (omega (arith, a, l))) refl
 
--- Atoms, behind white space.
+-- Atoms.
 
-module _ (s : List ℕ) (k i : ℕ) where
-  pub atom_always : (j : ℕ) → Some j ≡ mark_at 0x74 s i → Some (65535, j) ≡ answer_of (atom_at s k (skip s i))
+module _ (s : List ℕ) (k j : ℕ) where
+  pub atom_always : (l : ℕ) → Some l ≡ byte_from 0x74 s j → Some (65535, l) ≡ answer_of (atom_at s k j)
   unfolding mask_of
-  atom_always j e =
-      let t = mark_taken 0x74 s i j e in
-      rw (atom_t s k (skip s i) t.0, t.1) (found_answer always 65535 (skip s i + 1) refl)
+  atom_always l e =
+      let t = byte_taken 0x74 s j l e in
+      rw (atom_t s k j t.0, t.1) (found_answer always 65535 (j + 1) refl)
 
-  pub atom_never : (j : ℕ) → Some j ≡ mark_at 0x66 s i → Some (0, j) ≡ answer_of (atom_at s k (skip s i))
+  pub atom_never : (l : ℕ) → Some l ≡ byte_from 0x66 s j → Some (0, l) ≡ answer_of (atom_at s k j)
   unfolding mask_of
-  atom_never j e =
-      let t = mark_taken 0x66 s i j e in
-      rw (atom_f s k (skip s i) t.0, t.1) (found_answer never 0 (skip s i + 1) refl)
+  atom_never l e =
+      let t = byte_taken 0x66 s j l e in
+      rw (atom_f s k j t.0, t.1) (found_answer never 0 (j + 1) refl)
 
-  module _ (t : None ≡ mark_at 0x74 s i) (f : None ≡ mark_at 0x66 s i) where
-    atom_number : atom_at s k (skip s i) ≡ proposition_of k (number_at s i)
-    atom_number =
-        atom_other s k (skip s i) (mark_missed 0x74 s i t) (mark_missed 0x66 s i f) ∙ ap (proposition_of k) (number_skip s i)
+  module _ (t : None ≡ byte_from 0x74 s j) (f : None ≡ byte_from 0x66 s j) where
+    atom_number : atom_at s k j ≡ proposition_of k (number_at s j)
+    atom_number = atom_other s k j (byte_missed 0x74 s j t) (byte_missed 0x66 s j f)
 
-    pub atom_missing : None ≡ capped (number_at s i) → None ≡ answer_of (atom_at s k (skip s i))
-    atom_missing e = rw atom_number (proposition_missing k (number_at s i) e)
+    pub atom_missing : None ≡ capped (number_at s j) → None ≡ answer_of (atom_at s k j)
+    atom_missing e = rw atom_number (proposition_missing k (number_at s j) e)
 
-    module _ (few : k ≤ 4) (p j : ℕ) (e : Some (p, j) ≡ capped (number_at s i)) where
-      pub atom_lacking : k ≤ p → None ≡ answer_of (atom_at s k (skip s i))
-      atom_lacking l = rw atom_number (proposition_lacking k (number_at s i) few p j e l)
+    module _ (few : k ≤ 4) (p l : ℕ) (e : Some (p, l) ≡ capped (number_at s j)) where
+      pub atom_lacking : k ≤ p → None ≡ answer_of (atom_at s k j)
+      atom_lacking h = rw atom_number (proposition_lacking k (number_at s j) few p l e h)
 
-      pub atom_known : p < k → (m : ℕ) → m ≡ proposition_mask p → Some (m, j) ≡ answer_of (atom_at s k (skip s i))
-      atom_known l m q = rw (q, atom_number) (proposition_known k (number_at s i) few p j e l)
+      pub atom_known : p < k → (m : ℕ) → m ≡ proposition_mask p → Some (m, l) ≡ answer_of (atom_at s k j)
+      atom_known h m q = rw (q, atom_number) (proposition_known k (number_at s j) few p l e h)
 
 pub ruleset atom_steps = (atom_always, atom_never, atom_missing, atom_lacking, atom_known)

@@ -6,7 +6,6 @@ ghost use Rattle.std.specs.Prelude.{◌≡◌, ◌≤◌, cond, is_some};
 ghost use Rattle.std.specs.Option.{option_map};
 ghost use Rattle.labels.specs.Labels.{proposition_mask};
 ghost use Rattle.labels.specs.LabelReading.{atom_at, operand_at, conjunction, disjunction, closed, label_at};
-ghost use Rattle.tokens.specs.Tokens.{skip};
 ghost use Rattle.tokens.specs.Scanners.{Ahead};
 ghost use Rattle.label_reader.specs.Truths.{answer_of};
 
@@ -32,10 +31,11 @@ fn proposition_mask(p: usize) -> u16
 }
 
 impl Labels {
-    // t, f or a proposition that there is.
+    // t, f or a proposition that there is. Inline, so the place stays in a register.
+    #[inline(always)]
     #[tactic(auto, using(crate::proofs::ReadTruths::atom_steps))]
     fn atom_at(self, scanner: &mut Scanner) -> Option<u16>
-        ensures meaning { option_map (λ m. (m, scanner.new.at)) result ≡ answer_of (atom_at scanner.old.text.now self.propositions (skip scanner.old.text.now scanner.old.at)) }
+        ensures meaning { option_map (λ m. (m, scanner.new.at)) result ≡ answer_of (atom_at scanner.old.text.now self.propositions scanner.old.at) }
         ensures moved { Ahead (cond (is_some result) 1 0) scanner.old scanner.new }
     {
         if scanner.take(b't') {
@@ -58,7 +58,7 @@ impl Labels {
         ensures moved { Ahead (cond (is_some result) 1 0) scanner.old scanner.new }
     {
         let mut mask = self.and_at(scanner, depth)?;
-        while scanner.take(b'|') {
+        while scanner.mark(b'|') {
             mask |= self.and_at(scanner, depth)?;
         }
         Some(mask)
@@ -71,7 +71,7 @@ impl Labels {
         ensures moved { Ahead (cond (is_some result) 1 0) scanner.old scanner.new }
     {
         let mut mask = self.not_at(scanner, depth)?;
-        while scanner.take(b'&') {
+        while scanner.mark(b'&') {
             mask &= self.not_at(scanner, depth)?;
         }
         Some(mask)
@@ -84,6 +84,7 @@ impl Labels {
         ensures meaning { option_map (λ m. (m, scanner.new.at)) result ≡ answer_of (operand_at scanner.old.text.now self.propositions depth scanner.old.at) }
         ensures moved { Ahead (cond (is_some result) 1 0) scanner.old scanner.new }
     {
+        scanner.skip();
         if depth == 0 {
             return self.atom_at(scanner);
         }
@@ -104,7 +105,7 @@ impl Labels {
         ensures moved { Ahead (cond (is_some result) 1 0) scanner.old scanner.new }
     {
         let mask = self.or_at(scanner, depth)?;
-        scanner.take(b')').then_some(mask)
+        scanner.mark(b')').then_some(mask)
     }
 }
 

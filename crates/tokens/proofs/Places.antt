@@ -10,12 +10,12 @@ use lib.ListN.{length, drop, take}
 use Rattle.std.specs.Cmp.Lexicographic.{pointwise}
 use Rattle.std.proofs.lemmas.List.{take_rest}
 use Rattle.tokens.proofs.Words.{starts_with_lem}
-use Rattle.tokens.proofs.Runs.{byte_within, digits_on, skip_from}
+use Rattle.tokens.proofs.Runs.{byte_within, digits_on, skip_from, skip_skip}
 use Rattle.std.specs.Prelude.{Option, Some, None}
 use Rattle.std.specs.Bool.{then_some}
 use Rattle.std.proofs.lemmas.Option.{none-some, same_Some}
 use Rattle.tokens.specs.Tokens.{digits_at, byte_at, skip, touches, starts_with, stands, behind, digit, digits, value, Number, none, number_at, name_bytes}
-use Rattle.tokens.specs.Places.{token_at, mark_at, name_from, name_at, capped}
+use Rattle.tokens.specs.Places.{token_at, byte_from, name_from, name_at, capped}
 
 -- A token.
 
@@ -50,32 +50,38 @@ module _ (w s : List ℕ) (i : ℕ) where
       by true f = (refl, same_Some _ _ f)
       by false f = absurd (none-some j (sym f))
 
+  -- the same behind the white space in front
+  pub token_skip : token_at w s (skip s i) ≡ token_at w s i
+  unfolding token_at stands
+  token_skip =
+      let at : ℕ → Option ℕ = λ k. elim (starts_with w (drop k s) && not (touches s k)) [ true ↦ Some (k + length w) | false ↦ None ] in
+      ap at (skip_skip s i)
+
 pub ruleset token_steps = (token_apart, token_touches, token_stands, take_rest)
 
 -- A byte.
 
-module _ (b : ℕ) (s : List ℕ) (i : ℕ) where
-  pub mark_apart : (byte_at s (skip s i) ≡ b → ⊥) → None ≡ mark_at b s i
-  unfolding mark_at
-  mark_apart n = rw (mark_at, ne_eqb (byte_at s (skip s i)) b n) refl
+module _ (b : ℕ) (s : List ℕ) (j : ℕ) where
+  pub byte_apart : (byte_at s j ≡ b → ⊥) → None ≡ byte_from b s j
+  unfolding byte_from
+  byte_apart n = rw (byte_from, ne_eqb (byte_at s j) b n) refl
 
-  pub mark_stands : byte_at s (skip s i) ≡ b → Some (skip s i + 1) ≡ mark_at b s i
-  unfolding mark_at
-  mark_stands e = rw (mark_at, eq-eqb (byte_at s (skip s i)) b e) refl
+  pub byte_stands : byte_at s j ≡ b → Some (j + 1) ≡ byte_from b s j
+  unfolding byte_from
+  byte_stands e = rw (byte_from, eq-eqb (byte_at s j) b e) refl
 
-  pub mark_missed : None ≡ mark_at b s i → byte_at s (skip s i) ≡ b → ⊥
-  mark_missed e q = none-some (skip s i + 1) (e ∙ sym (mark_stands q))
+  pub byte_missed : None ≡ byte_from b s j → byte_at s j ≡ b → ⊥
+  byte_missed e q = none-some (j + 1) (e ∙ sym (byte_stands q))
 
-  pub mark_taken : (j : ℕ) → Some j ≡ mark_at b s i → (byte_at s (skip s i) ≡ b) × (j ≡ skip s i + 1)
-  unfolding mark_at
-  mark_taken j e = by (eqb (byte_at s (skip s i)) b) refl e
+  pub byte_taken : (k : ℕ) → Some k ≡ byte_from b s j → (byte_at s j ≡ b) × (k ≡ j + 1)
+  unfolding byte_from
+  byte_taken k e = by (eqb (byte_at s j) b) refl e
     where
-      by : (x : Bool) → eqb (byte_at s (skip s i)) b ≡ x → Some j ≡ elim x [ true ↦ Some (skip s i + 1) | false ↦ None ]
-          → (byte_at s (skip s i) ≡ b) × (j ≡ skip s i + 1)
-      by true q f = (eqb-true (byte_at s (skip s i)) b q, same_Some _ _ f)
-      by false q f = absurd (none-some j (sym f))
+      by : (x : Bool) → eqb (byte_at s j) b ≡ x → Some k ≡ elim x [ true ↦ Some (j + 1) | false ↦ None ] → (byte_at s j ≡ b) × (k ≡ j + 1)
+      by true q f = (eqb-true (byte_at s j) b q, same_Some _ _ f)
+      by false q f = absurd (none-some k (sym f))
 
-pub ruleset mark_steps = (mark_apart, mark_stands, byte_within)
+pub ruleset byte_steps = (byte_apart, byte_stands, byte_within)
 
 -- A number.
 

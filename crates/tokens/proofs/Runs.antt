@@ -13,6 +13,7 @@ use lib.ListN.{length, get_or, drop, drop_of_length-le}
 use lib.Seq.{drop-cons}
 use Rattle.std.specs.List.{prefix_len}
 use Rattle.std.proofs.lemmas.List.Recursion.{same_from_clauses}
+use Rattle.std.proofs.lemmas.Bool.Decides.{nat_tests}
 use borrow.Author.Tests.{ltb-true, ltb-false}
 use Rattle.automaton.proofs.Booleans.{clash}
 use Rattle.tokens.specs.Tokens.{white, whites, skip, digit, digits, name_byte, name_bytes}
@@ -128,3 +129,13 @@ digits_here s i e = sym ((digit_run s i i).0 (run_ends e refl))
 pub digits_on : (s : List ℕ) (i : ℕ) → digit (get_or s i 0) ≡ true → i + digits (drop i s) ≡ i + 1 + digits (drop (i + 1) s)
 digits_on s i e =
     sym ((digit_run s i (i + 1 + digits (drop (i + 1) s))).0 (run_on e ((digit_run s (i + 1) (i + 1 + digits (drop (i + 1) s))).1 refl)))
+
+-- and from there on none is passed
+pub skip_skip : (s : List ℕ) (i : ℕ) → skip s (skip s i) ≡ skip s i
+skip_skip s i = skip_here s (skip s i) (skip_stops s i)
+
+-- behind the blank among the bytes there is no white space
+pub skip_black : (s : List ℕ) (i : ℕ) → 0x20 < get_or s i 0 → i ≡ skip s i
+skip_black s i h = sym (skip_here s i (grind (arith, nat_tests)))
+
+pub ruleset start_steps = (skip_black, skip_from)

@@ -8,11 +8,11 @@ mod scanner;
 
 pub use scanner::Scanner;
 
-// Whether a byte is white space.
+// Whether a byte is white space. So written it is the test of one bit, where `matches!` is four branches.
 fn is_white(b: u8) -> bool
     ensures { result ≡ white b }
 {
-    matches!(b, b' ' | b'\t' | b'\n' | b'\r')
+    (b == b' ') | (b == b'\t') | (b == b'\n') | (b == b'\r')
 }
 
 // The number of bytes of white space in front.

@@ -1,4 +1,4 @@
-// A text that is read token by token.
+// A text that is read token by token. What is read is put inline where it is called: so the place stays in a register, and a word is compared with a constant.
 ghost use Rattle.std.specs.Prelude.{◌≤◌, length};
 
 use crate::{byte_at, digits, name_bytes, touches, whites};
@@ -16,8 +16,8 @@ impl<'a> Scanner<'a> {
     ghost use Rattle.std.specs.Bool.{then_some};
     ghost use Rattle.std.specs.Option.{option_map};
     ghost use Rattle.tokens.specs.Tokens.{skip, number_at};
-    ghost use Rattle.tokens.specs.Places.{token_at, mark_at, name_at, capped};
-    ghost use Rattle.tokens.specs.Scanners.{Moved};
+    ghost use Rattle.tokens.specs.Places.{token_at, byte_from, mark_at, name_at, capped};
+    ghost use Rattle.tokens.specs.Scanners.{Ahead, Moved};
 
     // A text of which nothing is read yet.
     pub fn new(text: &'a [u8]) -> Scanner<'a>
@@ -26,22 +26,27 @@ impl<'a> Scanner<'a> {
         Scanner { text, at: 0 }
     }
 
-    // The first place from here on that holds no white space.
-    #[tactic(auto, unfolding(crate::specs::Tokens::skip))]
+    // The first place from here on that holds no white space. Mostly it is this one, which a test without a loop tells.
+    #[tactic(auto, using(crate::proofs::Runs::start_steps), unfolding(crate::specs::Tokens::skip))]
     fn start(&self) -> usize
         ensures { (result ≡ skip self.now.text.now self.now.at) × (self.now.at ≤ result) × (result ≤ length self.now.text.now) }
     {
+        if byte_at(self.text, self.at) > b' ' {
+            return self.at;
+        }
         self.at + whites(&self.text[self.at..])
     }
 
     // Passes white space.
     pub fn skip(&mut self)
-        ensures { (self.new.text ≡ self.old.text) × (self.new.at ≡ skip self.old.text.now self.old.at) }
+        ensures place { self.new.at ≡ skip self.old.text.now self.old.at }
+        ensures moved { Ahead 0 self.old self.new }
     {
         self.at = self.start();
     }
 
     // Passes the token that the word spells, if it stands here.
+    #[inline(always)]
     #[tactic(auto, using(crate::proofs::Places::token_steps))]
     pub fn token(&mut self, word: &[u8]) -> bool
         ensures meaning { then_some result self.new.at ≡ token_at word.now self.old.text.now self.old.at }
@@ -55,9 +60,23 @@ impl<'a> Scanner<'a> {
         true
     }
 
-    // Passes the byte, if it stands here; it may touch what is before it.
-    #[tactic(auto, using(crate::proofs::Places::mark_steps))]
+    // Passes the byte, if it is the next one.
+    #[tactic(auto, using(crate::proofs::Places::byte_steps))]
     pub fn take(&mut self, byte: u8) -> bool
+        requires { 1 ≤ byte }
+        ensures meaning { then_some result self.new.at ≡ byte_from byte self.old.text.now self.old.at }
+        ensures moved { Moved result 1 self.old self.new }
+    {
+        if byte_at(self.text, self.at) != byte {
+            return false;
+        }
+        self.at += 1;
+        true
+    }
+
+    // Passes the byte, if it stands here behind white space; it may touch what is before it.
+    #[tactic(auto, using(crate::proofs::Places::byte_steps))]
+    pub fn mark(&mut self, byte: u8) -> bool
         requires { 1 ≤ byte }
         ensures meaning { then_some result self.new.at ≡ mark_at byte self.old.text.now self.old.at }
         ensures moved { Moved result 1 self.old self.new }
@@ -71,6 +90,7 @@ impl<'a> Scanner<'a> {
     }
 
     // Passes the number that stands here: its value, 1,000 where it is that or more.
+    #[inline(always)]
     #[tactic(auto, using(crate::proofs::Places::number_steps))]
     pub fn number(&mut self) -> Option<usize>
         ensures meaning { option_map (λ v. (v, self.new.at)) result ≡ capped (number_at self.old.text.now self.old.at) }

@@ -9,20 +9,22 @@ use Rattle.hanoi_reader.proofs.parts.Body.take_part.Goals as goal
 
 pub returns-then-scanner : goal.returns-then-scanner
 returns-then-scanner c = λ D H.
+    let t = c.skip.ensures in
     let m = c.if-token.ensures in
-    let k = c.skip.ensures in (
-      ended_part _ _ D _ m.meaning
-          ∙ rw (← m.moved.text) (end_followed _ _ D (λ e. c.if-scanner.true (k.1 ∙ e ∙ ap (λ x. length x.now) (sym k.0)))),
+    let k = c.skip-then-token.ensures in (
+      ended_part _ _ _ t.place D _ (rw t.moved.text at m.meaning)
+          ∙ rw (← t.moved.text, ← m.moved.text) (end_followed _ _ D (λ e. c.if-scanner.true (k.place ∙ e ∙ ap (λ x. length x.now) (sym k.moved.text)))),
       H.automaton,
       refl,
     )
 
 pub returns-then-token : goal.returns-then-token
 returns-then-token c = λ D H.
+    let t = c.skip.ensures in
     let m = c.if-token.ensures in
-    let k = c.skip.ensures in (
-      ended_part _ _ D _ m.meaning
-          ∙ rw (← m.moved.text) (end_whole _ _ D (sym k.1 ∙ c.if-scanner.false ∙ ap (λ x. length x.now) k.0)),
+    let k = c.skip-then-token.ensures in (
+      ended_part _ _ _ t.place D _ (rw t.moved.text at m.meaning)
+          ∙ rw (← t.moved.text, ← m.moved.text) (end_whole _ _ D (sym k.place ∙ c.if-scanner.false ∙ ap (λ x. length x.now) k.moved.text)),
       H.automaton,
       refl,
     )
@@ -30,21 +32,24 @@ returns-then-token c = λ D H.
 pub returns-then-token-2 : goal.returns-then-token-2
 returns-then-token-2 c =
     let e : c.and.result ≡ goes c.take_state.result = search rules in
+    let t = c.skip.ensures in
     let m = c.if-token.ensures in
     let n = c.if-token-2.ensures in
     rw e (λ D H.
-    part_taken _ _ _ _ _ _ _ _ (ahead_append (ahead_moved m.moved) (ahead_moved n.moved))
-    _ _ (state_part _ _ D m.meaning _ (rw (m.moved.text, m.moved.stays refl) at n.meaning) ∙ rw (← m.moved.text, ← n.moved.text) refl)
+    part_taken _ _ _ _ _ _ _ _ (ahead_append t.moved (ahead_append (ahead_moved m.moved) (ahead_moved n.moved)))
+    _ _ (state_part _ _ _ t.place D (rw t.moved.text at m.meaning) _ (rw (m.moved.text, t.moved.text, m.moved.stays refl) at n.meaning)
+    ∙ rw (← t.moved.text, ← m.moved.text, ← n.moved.text) refl)
     (goes c.take_state.result) (c.take_state.ensures D H))
 
 pub returns-in_err-expect : goal.returns-in_err-expect
 returns-in_err-expect c =
     let p = err_from_is_err_and c.from_residual.result c.from_residual.ensures.1 in
+    let t = c.skip.ensures in
     let m = c.if-token.ensures in
     let n = c.if-token-2.ensures in
     rw (p.1, p.2) (λ D H. (
-      edge_part _ _ D m.meaning (rw (m.moved.text, m.moved.stays refl) at n.meaning)
-          ∙ rw (← m.moved.text, ← n.moved.text, ← m.moved.stays refl, ← n.moved.stays refl) (c.in_err-expect.ensures.meaning _),
+      edge_part _ _ _ t.place D (rw t.moved.text at m.meaning) (rw (m.moved.text, t.moved.text, m.moved.stays refl) at n.meaning)
+          ∙ rw (← t.moved.text, ← m.moved.text, ← n.moved.text, ← m.moved.stays refl, ← n.moved.stays refl) (c.in_err-expect.ensures.meaning _),
       H.automaton,
       refl,
     ))
@@ -53,11 +58,12 @@ pub returns-in_err-q : goal.returns-in_err-q
 returns-in_err-q c =
     let p = err_from_is_err_and c.from_residual-in_err-q.result c.from_residual-in_err-q.ensures.1 in
     let h = missing _ _ c.in_err-q.ensures.value in
+    let t = c.skip.ensures in
     let m = c.if-token.ensures in
     let n = c.if-token-2.ensures in
     rw (p.1, p.2, h.1) (λ D H. (
-      edge_part _ _ D m.meaning (rw (m.moved.text, m.moved.stays refl) at n.meaning)
-          ∙ rw (← m.moved.text, ← n.moved.text, ← m.moved.stays refl, ← n.moved.stays refl)
+      edge_part _ _ _ t.place D (rw t.moved.text at m.meaning) (rw (m.moved.text, t.moved.text, m.moved.stays refl) at n.meaning)
+          ∙ rw (← t.moved.text, ← m.moved.text, ← n.moved.text, ← m.moved.stays refl, ← n.moved.stays refl)
           (c.in_ok-expect.ensures.meaning _ ∙ latest_none _ _ D (H.latest ∙ h.0)),
       H.automaton,
       refl,
@@ -66,12 +72,13 @@ returns-in_err-q c =
 pub returns : goal.returns
 returns c =
     let e : c.and-2.result ≡ goes c.take_edge.result = search rules in
+    let t = c.skip.ensures in
     let m = c.if-token.ensures in
     let n = c.if-token-2.ensures in
     let x = c.in_ok-expect.ensures in
     rw e (λ D H.
-    part_taken _ _ _ _ _ _ _ _ (ahead_append (ahead_moved m.moved) (ahead_append (ahead_moved n.moved) x.ahead))
-    _ _ (edge_part _ _ D m.meaning (rw (m.moved.text, m.moved.stays refl) at n.meaning)
-    ∙ rw (← m.moved.text, ← n.moved.text, ← m.moved.stays refl, ← n.moved.stays refl)
+    part_taken _ _ _ _ _ _ _ _ (ahead_append t.moved (ahead_append (ahead_moved m.moved) (ahead_append (ahead_moved n.moved) x.ahead)))
+    _ _ (edge_part _ _ _ t.place D (rw t.moved.text at m.meaning) (rw (m.moved.text, t.moved.text, m.moved.stays refl) at n.meaning)
+    ∙ rw (← t.moved.text, ← m.moved.text, ← n.moved.text, ← m.moved.stays refl, ← n.moved.stays refl)
     (x.meaning _ ∙ rw (← x.ahead.text) (latest_some _ _ _ D (H.latest ∙ c.in_ok-q.ensures.ok_part))))
     (goes c.take_edge.result) (c.take_edge.ensures D H))
