@@ -1,28 +1,27 @@
--- The parts of a reading as the code goes through them: the header's tests, what a record does to the header and the two sets of bytes, and how
--- the reading goes on after it. Each law goes by the tests in their order. Assumes nothing.
+-- The parts of a reading as the code goes through them: the header, what a record does, and how the reading goes on after it. Each law goes by the
+-- tests in their order. Assumes nothing.
 use Rattle.std.specs.Prelude.{Option, Some, None, Result, Ok, Err}
-use mathlib.Core.Path.{◌≡◌, sym, ap, subst, ◌∙◌}
-use mathlib.Core.Bool.{Bool, true, false, ◌&&◌}
+use mathlib.Core.Path.{◌≡◌, refl, sym, ap, subst, ◌∙◌}
+use mathlib.Core.Bool.{Bool, true}
 use mathlib.Core.List.{List}
-use Prim.Native.Nat.{ℕ, ◌+◌, ◌≤◌, ◌<◌}
+use Prim.Native.Nat.{ℕ, ◌+◌, ◌≤◌}
 use native.Mathlib.Omega.{arith}
-use lib.Dec.{ltb}
 use lib.ListN.{length, get_or, replicate}
-use borrow.Author.Tests.{le-leb, lt-leb, lt-ltb, le-ltb}
+use borrow.Author.Tests.{le-leb}
 use Rattle.automaton.specs.declared.Automaton.{Automaton}
-use Rattle.automaton.specs.Sets.{member}
-use Rattle.automaton.specs.Automata.{accepts, transition, bare, with_accepting, with_transition, transition_bit, header_values}
+use Rattle.automaton.specs.Automata.{bare, header_values}
 use Rattle.automaton.proofs.InRange.{header_values_iff}
 use Rattle.automaton.proofs.Bits.{bare_header}
 use Rattle.format.specs.declared.Record.{Record}
-use Rattle.format.specs.declared.Record.TheVariants.{Accepting, Transition}
+use Rattle.format.specs.declared.Record.TheVariants.{End}
 use Rattle.format.specs.Marks.{marked, header_mark}
 use Rattle.format.specs.Records.{record_in}
 use Rattle.format.specs.File.{Read, Step, over, next, refused, holds, check, header, takes, record_at, read_file}
 use Rattle.format.specs.declared.FileRefusal.{FileRefusal}
 use Rattle.format.specs.Numbers.{file_number}
 use Rattle.file.specs.declared.Header.{Header}
-use Rattle.file.specs.Taking.{started, Headed, progress_step, automaton_after, automaton_read, RecordTaken}
+use Rattle.records.specs.Readers.{place_after}
+use Rattle.file.specs.Taking.{started, Headed, added, progress_step, automaton_after, automaton_read, RecordTaken}
 use Rattle.format.proofs.RecordSteps.{HeaderStep, without_header, starts, header_step, record_advances}
 use Rattle.format.proofs.RecordSteps.{read_after, read_file_lem, read_over, read_next}
 use Rattle.file.proofs.LeftAutomata.{left_after, left_file, left_over, left_next, unheaded_automaton}
@@ -30,67 +29,20 @@ use Rattle.file.proofs.LeftAutomata.{left_after, left_file, left_over, left_next
 -- The step of a record that was read.
 
 -- what a record came to, with B left of A
-pub taken : {x : Step} (p : Result (Option ℕ) FileRefusal) {A B : Automaton} → x ≡ progress_step p B → automaton_after (progress_step p B) A ≡ B → RecordTaken x p A B
+taken : {x : Step} (p : Result (Option ℕ) FileRefusal) {A B : Automaton} → x ≡ progress_step p B → automaton_after (progress_step p B) A ≡ B → RecordTaken x p A B
 taken p {A} e l = record { step = e; after = sym (ap (λ y. automaton_after y A) e ∙ l) }
 
-pub record_taken : (s : List ℕ) (i : ℕ) (A : Automaton) (x y : Result Record FileRefusal) {p : Result (Option ℕ) FileRefusal} {B : Automaton} → x ≡ record_in s i → x ≡ y
+record_taken : (s : List ℕ) (i : ℕ) (A : Automaton) (x y : Result Record FileRefusal) {p : Result (Option ℕ) FileRefusal} {B : Automaton} → x ≡ record_in s i → x ≡ y
     → RecordTaken (takes y A) p A B → RecordTaken (record_at s i A) p A B
 record_taken s i A x y {p} {B} d e h = subst (λ (z : Result Record FileRefusal). RecordTaken (takes z A) p A B) (sym e ∙ d) h
 
--- The header.
+-- The header: with its values n, k and i read, v says whether they are in their ranges.
 
-module _ (s : List ℕ) where
-  pub header_short : length s < 2 → header s ≡ over (refused 1)
-  unfolding header
-  header_short h = rw (lt-leb 2 (length s) h)
-
-  pub header_unmarked : 2 ≤ length s → marked s 0 header_mark ≡ false → header s ≡ over (refused 2)
-  unfolding header
-  header_unmarked h e = rw (le-leb 2 (length s) h, e)
-
-  module _ (e : marked s 0 header_mark ≡ true) where
-    pub header_cut : 2 ≤ length s → length s < 5 → header s ≡ over (refused 1)
-    unfolding header
-    header_cut h l = rw (le-leb 2 (length s) h, e, lt-leb 5 (length s) l)
-
-    -- with its values n, k and i read, v says whether they are in their ranges
-    pub header_values_lem : (n k i : ℕ) (v : Bool) → 5 ≤ length s → n ≡ get_or s 2 0 → k ≡ get_or s 3 0 → i ≡ get_or s 4 0
-        → v ≡ header_values n k i → header s ≡ check v 3 (next 5 (bare n k i))
-    unfolding header
-    header_values_lem n k i v h p q r d =
-        rw (le-leb 2 (length s) (omega arith), e, le-leb 5 (length s) h, d, p, q, r)
-
--- What a record does.
-
-module _ (A : Automaton) (j : ℕ) where
-  module _ (q : ℕ) where
-    pub takes_unknown_state : A.states ≤ q → takes (Ok (Accepting q j)) A ≡ over (refused 4)
-    unfolding takes
-    takes_unknown_state l = rw (le-ltb q A.states l)
-
-    module _ (l : q < A.states) where
-      pub takes_repeated_state : member A.accepting q ≡ true → takes (Ok (Accepting q j)) A ≡ over (refused 5)
-      unfolding takes accepts
-      takes_repeated_state e = rw (lt-ltb q A.states l, e)
-
-      pub takes_state : member A.accepting q ≡ false → takes (Ok (Accepting q j)) A ≡ next j (with_accepting A q)
-      unfolding takes accepts
-      takes_state e = rw (lt-ltb q A.states l, e)
-
-  module _ (q a r : ℕ) where
-    pub takes_unknown : (ltb q A.states && ltb a A.letters && ltb r A.states) ≡ false
-        → takes (Ok (Transition q a r j)) A ≡ over (refused 4)
-    unfolding takes
-    takes_unknown e = rw e
-
-    module _ (e : (ltb q A.states && ltb a A.letters && ltb r A.states) ≡ true) where
-      pub takes_repeated : transition_bit A q a r ≡ true → takes (Ok (Transition q a r j)) A ≡ over (refused 5)
-      unfolding takes transition
-      takes_repeated d = rw (e, d)
-
-      pub takes_transition : transition_bit A q a r ≡ false → takes (Ok (Transition q a r j)) A ≡ next j (with_transition A q a r)
-      unfolding takes transition
-      takes_transition d = rw (e, d)
+pub header_values_lem : (s : List ℕ) → marked s 0 header_mark ≡ true → (n k i : ℕ) (v : Bool) → 5 ≤ length s → n ≡ get_or s 2 0 → k ≡ get_or s 3 0
+    → i ≡ get_or s 4 0 → v ≡ header_values n k i → header s ≡ check v 3 (next 5 (bare n k i))
+unfolding header
+header_values_lem s e n k i v h p q r d =
+    rw (le-leb 2 (length s) (omega arith), e, le-leb 5 (length s) h, d, p, q, r)
 
 -- The reading goes on after a record, or is over.
 
@@ -126,6 +78,31 @@ module _ (s : List ℕ) (i : ℕ) (A B : Automaton) (p : Result (Option ℕ) Fil
           automaton = to.automaton ∙ ap (λ (y : Step). left_after s y A) (came d) ∙ left_next s j B A;
         },
       )
+
+-- The reading goes on after a record that the reader says, or is over: the reader stands at i in the file s, and says x.
+
+module _ {s t : List ℕ} {i : ℕ} {A : Automaton} {x : Result Record FileRefusal} (e : t ≡ s) (to : ReadTo s i A) (d : x ≡ record_in t i) where
+  said : {y : Result Record FileRefusal} {p : Result (Option ℕ) FileRefusal} {B : Automaton} → x ≡ y → RecordTaken (takes y A) p A B → RecordTaken (record_at s i A) p A B
+  said {y} h = record_taken s i A x y (d ∙ ap (λ (l : List ℕ). record_in l i) e) h
+
+  pub said_fault : {f : FileRefusal} → x ≡ Err f → (read_file s ≡ refused (file_number f)) × (automaton_read s ≡ A)
+  unfolding takes
+  said_fault {f} h = reading_refused s i A A (Err f) to (said h (taken (Err f) refl refl)) f refl
+
+  pub said_end : x ≡ Ok End → (read_file s ≡ holds A) × (automaton_read s ≡ A)
+  unfolding takes
+  said_end h = reading_ends s i A A (Ok None) to (said h (taken (Ok None) refl refl)) refl
+
+  -- the record y, with j the position after it, is added to A, which came to r and left B
+  module _ {y : Result Record FileRefusal} (j : ℕ) {B : Automaton} {r : Result (Unit {0}) FileRefusal} (h : x ≡ y) (a : RecordTaken (takes y A) (added r j) A B) where
+    pub said_refused : {f : FileRefusal} → r ≡ Err f → (read_file s ≡ refused (file_number f)) × (automaton_read s ≡ B)
+    said_refused {f} c = reading_refused s i A B (added r j) to (said h a) f (ap (λ (z : Result (Unit {0}) FileRefusal). added z j) c)
+
+    pub said_added : {u : Unit {0}} {k : ℕ} → r ≡ Ok u → k ≡ place_after x i → place_after y i ≡ j → (i + 3 ≤ k) × (k ≤ length s) × ReadTo s k B
+    said_added c m n =
+        subst (λ (k : ℕ). (i + 3 ≤ k) × (k ≤ length s) × ReadTo s k B)
+        (sym (m ∙ ap (λ (z : Result Record FileRefusal). place_after z i) h ∙ n))
+        (reading_advances s i A B (added r j) to (said h a) j (ap (λ (z : Result (Unit {0}) FileRefusal). added z j) c))
 
 -- What a header that is there says of its file.
 

@@ -7,7 +7,9 @@ ghost use Rattle.format.specs.File.{read_file};
 ghost use Rattle.file.specs.Taking.{Headed, started, automaton_read, read_of};
 
 use automaton::Automaton;
-use format::FileRefusal;
+use format::{FileRefusal, Record};
+use records::Reader;
+use taking::{take_accepting, take_transition};
 
 mod first;
 mod taking;
@@ -36,11 +38,19 @@ fn read_records(file: &[u8], automaton: &mut Automaton) -> Result<(), FileRefusa
     ensures answer { read_of result automaton.new ≡ read_file file.now }
     ensures automaton { automaton.new ≡ automaton_read file.now }
 {
-    let mut at = 5;
-    while let Some(next) = taking::take_record(file, at, automaton)? {
-        at = next;
+    let mut reader = Reader::new(file, 5);
+    loop {
+        match reader.next_record()? {
+            Record::Accepting { state, .. } => take_accepting(automaton, state)?,
+            Record::Transition {
+                from,
+                letter,
+                to,
+                ..
+            } => take_transition(automaton, from, letter, to)?,
+            Record::End => return Ok(()),
+        }
     }
-    Ok(())
 }
 
 // Reads a file into an automaton without transitions: refused with 1 to 5, or read. The automaton is then that of the header and of the records

@@ -3,6 +3,7 @@
 
 ghost use Rattle.std.specs.Prelude.{◌≡◌};
 ghost use Rattle.format.specs.Records.{record_in};
+ghost use Rattle.records.specs.Readers.{place_after};
 
 mod bytes;
 
@@ -23,15 +24,21 @@ impl<'a> Reader<'a> {
         Reader { file, at }
     }
 
-    // The next record.
-    pub fn next_record(self) -> Result<Record, FileRefusal>
-        ensures { result ≡ record_in self.entry.file.now self.entry.at }
+    // The next record; the reader stands behind it afterwards, unless it is the end or a fault.
+    pub fn next_record(&mut self) -> Result<Record, FileRefusal>
+        ensures record { result ≡ record_in self.old.file.now self.old.at }
+        ensures file { self.new.file ≡ self.old.file }
+        ensures at { self.new.at ≡ place_after result self.old.at }
     {
-        bytes::record_at(self.file, self.at)
+        let record = bytes::record_at(self.file, self.at)?;
+        if let Record::Accepting { next, .. } | Record::Transition { next, .. } = record {
+            self.at = next;
+        }
+        Ok(record)
     }
 }
 
-// The next record of a file from a position on, by its reader.
+// The record of a file at a position, by its reader.
 pub fn record_from(file: &[u8], at: usize) -> Result<Record, FileRefusal>
     ensures { result ≡ record_in file.now at }
 {

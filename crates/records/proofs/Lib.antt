@@ -1,2 +1,0 @@
--- Laws of the records past the header.
-mod RecordCases

@@ -1,0 +1,2 @@
+-- Where the reader stands.
+pub mod Readers
