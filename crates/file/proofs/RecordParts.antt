@@ -81,9 +81,9 @@ module _ (s : List ℕ) (i : ℕ) (A B : Automaton) (p : Result (Option ℕ) Fil
 
 -- The reading goes on after a record that the reader says, or is over: the reader stands at i in the file s, and says x.
 
-module _ {s t : List ℕ} {i : ℕ} {A : Automaton} {x : Result Record FileRefusal} (e : t ≡ s) (to : ReadTo s i A) (d : x ≡ record_in t i) where
+module _ {s : List ℕ} {i : ℕ} {A : Automaton} {x : Result Record FileRefusal} (to : ReadTo s i A) (d : x ≡ record_in s i) where
   said : {y : Result Record FileRefusal} {p : Result (Option ℕ) FileRefusal} {B : Automaton} → x ≡ y → RecordTaken (takes y A) p A B → RecordTaken (record_at s i A) p A B
-  said {y} h = record_taken s i A x y (d ∙ ap (λ (l : List ℕ). record_in l i) e) h
+  said {y} h = record_taken s i A x y d h
 
   pub said_fault : {f : FileRefusal} → x ≡ Err f → (read_file s ≡ refused (file_number f)) × (automaton_read s ≡ A)
   unfolding takes

@@ -1,11 +1,14 @@
-// Reads files and finds their dead states. Each line of standard input gives a file: a name, a colon, and the bytes in hexadecimal, two
-// digits each with a space between. A line is written for each: the name; the refusal number of every truncation, from no bytes to the
-// whole file, a digit each; and where the last is 0 the numbers of states, letters and transitions, and the dead states.
+// Reads files and finds their dead states. Each line of standard input gives a file of at most 64 bytes: a name, a colon, and the bytes
+// in hexadecimal. A line is written for each: the name; the refusal number of every truncation, from no bytes to the whole file, a digit
+// each; and where the last is 0 the numbers of states, letters and transitions, and the dead states.
 #![tactic(auto)]
+
+ghost use Rattle.std.specs.Prelude.{◌<◌};
 
 use automaton::{Automaton, MAX_STATES, Valid};
 use format::{FileRefusal, Numbered};
-use std::alloc::Global;
+use input::read_full;
+use std::alloc::{AllocError, Global};
 use std::io;
 
 // Writes the numbers of the states whose flags are set.
@@ -64,27 +67,38 @@ fn show_file(rt: &impl Print, file: &[u8]) -> io::Result<()> {
     rt.println("")
 }
 
-// The bytes that a text gives in hexadecimal.
-fn bytes_of(alloc: Global, text: &str) -> io::Result<Vec<u8>> {
-    text.split_whitespace()
-        .map(|digits| {
-            u8::from_str_radix(digits, 16).map_err(|_| io::Error::other("not hexadecimal"))
-        })
-        .try_collect(alloc)
+// The number of a hexadecimal digit in lower case. By hand, since any other byte counts for a number too, where the library's `to_digit` gives none.
+fn digit(c: u8) -> u8
+    ensures { result < 16 }
+{
+    if c < b'a' { c % 16 } else { (c % 16 + 9) % 16 }
+}
+
+// The first 64 bytes that a text gives, each in two digits behind a colon or a space.
+fn bytes_of(alloc: Global, text: &[u8]) -> Result<Vec<u8>, AllocError> {
+    let (chunks, _) = text.as_chunks::<3>();
+    chunks
+        .iter()
+        .take(64)
+        .map(|[_, high, low]| digit(*high) * 16 + digit(*low))
+        .collect(alloc)
 }
 
 // Writes the line of the file that a line of the input gives.
-fn show_line(rt: &(impl Print + AllocGlobal), line: &str) -> io::Result<()> {
-    let Some((name, digits)) = line.split_once(':') else {
-        return Err(io::Error::other("no colon"));
-    };
-    print!(rt; "{name}: ")?;
-    show_file(rt, &bytes_of(rt.alloc(), digits)?)
+fn show_line(rt: &(impl Print + AllocGlobal), line: &[u8]) -> io::Result<()> {
+    let line = line.strip_suffix(b"\n").unwrap_or(line);
+    let colon = line.iter().position(|c| *c == b':').unwrap_or(line.len());
+    let (name, text) = line.split_at(colon);
+    rt.write_all(name)?;
+    rt.write_all(b": ")?;
+    show_file(rt, &bytes_of(rt.alloc(), text)?)
 }
 
 fn main(rt: HostRuntime) -> io::Result<()> {
-    for line in rt.lines(rt.alloc()) {
-        show_line(&rt, &line?)?;
+    let mut buffer = [0; 65536];
+    let text = read_full(&mut rt.stdin(), &mut buffer);
+    for line in text.split_inclusive(|c| *c == b'\n') {
+        show_line(&rt, line)?;
     }
     Ok(())
 }

@@ -35,15 +35,18 @@ fn show_part(rt: &impl Print, part: &[u8]) -> io::Result<()> {
     rt.println("")
 }
 
+// The two files of a call, the left one first.
+struct Files<'a>(&'a [u8], &'a [u8]);
+
 // Prints the number of a call and the part that comes back.
 fn show_call(
     rt: &impl Print,
-    first: &[u8],
-    second: &[u8],
+    files: Files,
     bound: u64,
     work: &mut [u8],
     word: &mut [u8],
 ) -> io::Result<()> {
+    let Files(first, second) = files;
     let (number, part) = kernel::contain_part(first, second, bound, work, word);
     print!(rt; "{number} part")?;
     show_part(rt, part)
@@ -56,14 +59,14 @@ fn main(rt: HostRuntime) -> io::Result<()> {
     let mut seven = [0u8; 280];
     let mut word = [9u8; 4];
     let mut none = [9u8; 0];
-    show_call(&rt, &F, &G, 1, &mut work, &mut word)?;
-    show_call(&rt, &G, &F, 0, &mut work, &mut word)?;
-    show_call(&rt, &G, &F, 0, &mut one, &mut word)?;
-    show_call(&rt, &G, &F, 0, &mut work, &mut none)?;
-    show_call(&rt, &G, &F, 1, &mut work, &mut word)?;
-    show_call(&rt, &G, &F, 1, &mut seven, &mut word)?;
-    show_call(&rt, &H, &J, 0, &mut work, &mut word)?;
-    show_call(&rt, &F, &G, 15, &mut work, &mut word)?;
+    show_call(&rt, Files(&F, &G), 1, &mut work, &mut word)?;
+    show_call(&rt, Files(&G, &F), 0, &mut work, &mut word)?;
+    show_call(&rt, Files(&G, &F), 0, &mut one, &mut word)?;
+    show_call(&rt, Files(&G, &F), 0, &mut work, &mut none)?;
+    show_call(&rt, Files(&G, &F), 1, &mut work, &mut word)?;
+    show_call(&rt, Files(&G, &F), 1, &mut seven, &mut word)?;
+    show_call(&rt, Files(&H, &J), 0, &mut work, &mut word)?;
+    show_call(&rt, Files(&F, &G), 15, &mut work, &mut word)?;
     print!(rt; "word buffer")?;
     show_part(&rt, &word)
 }

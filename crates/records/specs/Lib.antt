@@ -1,2 +1,2 @@
--- Where the reader stands.
+-- How the reader moves on.
 pub mod Readers

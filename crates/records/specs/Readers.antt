@@ -1,5 +1,5 @@
 -- How the reader moves on (01, "The file").
---   place_after x i   where the reader stands that was at i and says x: behind the record, and still at i if x is the end or a fault
+--   place_after x i   where the reader is that was at i and says x: behind the record, and still at i if x is the end or a fault
 -- Assumes nothing.
 use Rattle.std.specs.Prelude.{ℕ, Result, Ok, Err}
 use Rattle.format.specs.declared.FileRefusal.{FileRefusal}

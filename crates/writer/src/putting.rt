@@ -10,7 +10,7 @@ use buffers::Cursor;
 use relations::states_below;
 
 // Writes the header.
-pub fn put_header(out: &mut Cursor, valid: Valid)
+pub(crate) fn put_header(out: &mut Cursor, valid: Valid)
     requires { HasRoom out.old 5 }
     ensures { let A = valid.entry.automaton.now in
         Added out.old (header_bytes A.states A.letters A.initial) out.new }
@@ -22,7 +22,7 @@ pub fn put_header(out: &mut Cursor, valid: Valid)
 }
 
 // Writes the records of the accepting states, lowest first.
-pub fn put_accepting(out: &mut Cursor, valid: Valid)
+pub(crate) fn put_accepting(out: &mut Cursor, valid: Valid)
     requires { HasRoom out.old (length (items_bytes (accepting_items valid.automaton.now))) }
     ensures { Added out.old (items_bytes (accepting_items valid.entry.automaton.now)) out.new }
 {
@@ -59,7 +59,7 @@ fn put_from(out: &mut Cursor, valid: Valid, q: usize)
 }
 
 // Writes the records of all transitions, lowest state first.
-pub fn put_transitions(out: &mut Cursor, valid: Valid)
+pub(crate) fn put_transitions(out: &mut Cursor, valid: Valid)
     requires { HasRoom out.old (length (items_bytes (transition_items valid.automaton.now))) }
     ensures { Added out.old (items_bytes (transition_items valid.entry.automaton.now)) out.new }
 {
@@ -69,7 +69,7 @@ pub fn put_transitions(out: &mut Cursor, valid: Valid)
 }
 
 // Writes the end record.
-pub fn put_end(out: &mut Cursor)
+pub(crate) fn put_end(out: &mut Cursor)
     requires { HasRoom out.old 2 }
     ensures { Added out.old end_bytes out.new }
 {
