@@ -12,7 +12,7 @@ use fixed_form::WriteRefusal;
 use format::Numbered;
 use history::{OfferRefusal, Offered, OpenRefusal, VerdictRefusal, Walk};
 
-// Kind, count and word length in one number.
+// Kind, count and word length in one number, as the C interface has it. A sum, as the interface says it: from bytes the parts would have to be cut to theirs.
 fn packed(kind: usize, count: usize, len: usize) -> u64
     requires { packed kind count len < 2 ^ 64 }
     ensures { result ≡ packed kind count len }
@@ -50,7 +50,7 @@ pub fn open_number(opened: Result<(), OpenRefusal>) -> u64
     }
 }
 
-// Kind, the two counts, word length and walk in one number.
+// Kind, the two counts, word length and walk in one number, a sum as in `packed`.
 fn packed_offer(kind: usize, forward: usize, back: usize, len: usize, walk: usize) -> u64
     requires { packed_offer kind forward back len walk < 2 ^ 64 }
     ensures { result ≡ packed_offer kind forward back len walk }
