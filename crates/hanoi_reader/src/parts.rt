@@ -102,8 +102,8 @@ impl Body {
         Ok(())
     }
 
-    // Takes what stands at the scanner, a state, or an edge of the latest state: whether the reading goes on. Behind the end there is nothing to take; a refusal
-    // and the end change nothing.
+    // Takes what stands at the scanner, a state, or an edge of the latest state: whether the reading goes on. Behind the end there is nothing to take; a
+    // refusal and the end change nothing.
     pub fn take_part(
         &mut self,
         scanner: &mut Scanner,

@@ -54,7 +54,8 @@ impl Labels {
     // Conjunctions joined by `|`. A function beside and_at, since a label is read by functions for or, and, not and parentheses, a rule of the project.
     #[cycle(label)]
     fn or_at(self, scanner: &mut Scanner, depth: usize) -> Option<u16>
-        ensures meaning { option_map (λ m. (m, scanner.new.at)) result ≡ answer_of (disjunction scanner.old.text.now (operand_at scanner.old.text.now self.propositions depth) scanner.old.at) }
+        ensures meaning { option_map (λ m. (m, scanner.new.at)) result
+            ≡ answer_of (disjunction scanner.old.text.now (operand_at scanner.old.text.now self.propositions depth) scanner.old.at) }
         ensures moved { Ahead (cond (is_some result) 1 0) scanner.old scanner.new }
     {
         let mut mask = self.and_at(scanner, depth)?;
@@ -67,7 +68,8 @@ impl Labels {
     // Operands joined by `&`.
     #[cycle(label)]
     fn and_at(self, scanner: &mut Scanner, depth: usize) -> Option<u16>
-        ensures meaning { option_map (λ m. (m, scanner.new.at)) result ≡ answer_of (conjunction scanner.old.text.now (operand_at scanner.old.text.now self.propositions depth) scanner.old.at) }
+        ensures meaning { option_map (λ m. (m, scanner.new.at)) result
+            ≡ answer_of (conjunction scanner.old.text.now (operand_at scanner.old.text.now self.propositions depth) scanner.old.at) }
         ensures moved { Ahead (cond (is_some result) 1 0) scanner.old scanner.new }
     {
         let mut mask = self.not_at(scanner, depth)?;
@@ -101,7 +103,8 @@ impl Labels {
     #[cycle(label)]
     #[tactic(auto, using(crate::proofs::ReadTruths::paren_steps))]
     fn paren_at(self, scanner: &mut Scanner, depth: usize) -> Option<u16>
-        ensures meaning { option_map (λ m. (m, scanner.new.at)) result ≡ answer_of (closed scanner.old.text.now (disjunction scanner.old.text.now (operand_at scanner.old.text.now self.propositions depth) scanner.old.at)) }
+        ensures meaning { option_map (λ m. (m, scanner.new.at)) result
+            ≡ answer_of (closed scanner.old.text.now (disjunction scanner.old.text.now (operand_at scanner.old.text.now self.propositions depth) scanner.old.at)) }
         ensures moved { Ahead (cond (is_some result) 1 0) scanner.old scanner.new }
     {
         let mask = self.or_at(scanner, depth)?;

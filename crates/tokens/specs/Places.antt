@@ -5,9 +5,8 @@
 --   mark_at b s i    the same past white space from place i on
 --   name_at s i      the place behind the quoted name at place i, if one stands there
 --   capped n         a number as the code holds it, and the place behind it
---   Past s i j       place j is i or later, and in the text s or at its end
 -- Assumes nothing.
-use Rattle.std.specs.Prelude.{true, false, List, [], ◌∷◌, ℕ, ◌+◌, ◌≤◌, min, eqb, length, drop, Option, Some, None, option_and_then}
+use Rattle.std.specs.Prelude.{true, false, List, [], ◌∷◌, ℕ, ◌+◌, min, eqb, drop, Option, Some, None, option_and_then}
 use Rattle.tokens.specs.Tokens.{byte_at, skip, stands, behind, Number, none, number, name_bytes}
 
 unfoldable pub token_at : List ℕ → List ℕ → ℕ → Option ℕ
@@ -30,6 +29,3 @@ name_at s i = option_and_then (name_from s) (token_at (0x22 ∷ []) s i)
 abbrev pub capped : Number → Option (ℕ × ℕ)
 capped none = None
 capped (number v j) = Some (min v 1000, j)
-
-abbrev pub Past : List ℕ → ℕ → ℕ → Type 0
-Past s i j = (i ≤ j) × (j ≤ length s)

@@ -1,4 +1,5 @@
-// The tokens of a Hanoi text, taken one after another from its front on: words and marks, numbers of any length, quoted names. White space may stand before each.
+// The tokens of a Hanoi text, taken one after another from its front on: words and marks, numbers of any length, quoted names. White space may stand before
+// each.
 #![tactic(auto)]
 
 ghost use Rattle.std.specs.Prelude.{◌≡◌, true, ◌≤◌, ◌+◌, ◌*◌, ◌-◌, min, length};

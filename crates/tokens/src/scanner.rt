@@ -1,4 +1,5 @@
-// A text that is read token by token. What is read is put inline where it is called: so the place stays in a register, and a word is compared with a constant.
+// A text that is read token by token. Words and numbers are read inline where they are called for: so the place stays in a register, and a word is compared
+// with a constant.
 ghost use Rattle.std.specs.Prelude.{◌≤◌, length};
 
 use crate::{byte_at, digits, name_bytes, touches, whites};
