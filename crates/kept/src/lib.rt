@@ -34,7 +34,8 @@ impl Kept {
         }
     }
 
-    // The place from which on the line of a class stands. A line that another class had is cleared first.
+    // The place from which on the line of a class stands. A line that another class had is cleared first. A number, since a line that is lent needs
+    // a clause more for what is written through it, and is no plainer.
     #[tactic(auto, using(crate::proofs::KeptSteps::line_cleared))]
     pub fn line_of(&mut self, class: usize) -> usize
         requires { class < 65536 }

@@ -85,7 +85,8 @@ pub fn parent_of(work: &[u8], s: usize) -> usize
     u16::from_le_bytes([work[at + 34], work[at + 35]]) as usize
 }
 
-// The number of letters on the way to slot s.
+// The number of letters on the way to slot s. The chain is followed by hand: each parent is read from the bytes of its slot, and an iterator is no
+// plainer.
 #[tactic(auto, using(crate::proofs::Words::word_none, crate::proofs::Words::word_longer, crate::proofs::Words::word_few))]
 pub fn word_length(work: &[u8], s: usize) -> usize
     requires { (s < slot_count (length work.now)) × Falls work.now s }
@@ -100,7 +101,8 @@ pub fn word_length(work: &[u8], s: usize) -> usize
     n
 }
 
-// Writes the letters on the way to slot s to the front of word, first letter first, and answers how many there are.
+// Writes the letters on the way to slot s to the front of word, first letter first, and answers how many there are. By recursion, a rule of the
+// project: the last letter is read first, and there is no heap.
 #[tactic(auto, using(crate::proofs::Words::word_none, crate::proofs::Words::word_longer, crate::proofs::Words::letter_behind))]
 pub fn read_back(work: &[u8], s: usize, word: &mut [u8]) -> usize
     requires { (s < slot_count (length work.now)) × Falls work.now s × (length (word_at work.now s) ≤ length word.old) }

@@ -3,7 +3,7 @@
 #![tactic(auto)]
 
 ghost use Rattle.std.specs.Prelude.{◌≡◌, cond, ◌&&◌, not, ◌+◌, ◌<◌, ◌≤◌, max, min, ltb, length, get_or};
-ghost use Rattle.automaton.specs.Automata.{max_states, one};
+ghost use Rattle.automaton.specs.Automata.{max_states};
 ghost use Rattle.automaton.specs.Ranges.{table};
 ghost use Rattle.graph.specs.LagGraph.{max_bound};
 ghost use Rattle.step.specs.Masks.{row_place};
@@ -78,18 +78,19 @@ fn raised_to(top: u8, largest: u8) -> u8
 }
 
 // The counter of a right state after a step, from the largest of its predecessors' counters. It accepts if its `top` is above 0.
-fn counter_at(top: u8, visits: bool, largest: u8) -> u8
-    ensures { result ≡ counter_at top (one visits) largest }
+fn counter_at(top: u8, visits: u8, largest: u8) -> u8
+    ensures { result ≡ counter_at top visits largest }
 {
-    let plain = largest.saturating_sub(visits as u8);
+    let plain = largest.saturating_sub(visits);
     let raised = raised_to(top, largest);
     if top == 0 { plain } else { raised }
 }
 
-// The counters of all right states after a step to a left target; `visits` says whether the target accepts.
+// The counters of all right states after a step to a left target. `visits` is by how much those that are not raised fall: 1 where the target
+// accepts, and 0 where it does not.
 #[tactic(auto, unfolding(crate::specs::Steps::stepped_counters), using(crate::proofs::SteppedBytes::written_all))]
-pub fn counters_after(tops: &[u8; 32], visits: bool, largest: [u8; 32]) -> [u8; 32]
-    ensures { result ≡ stepped_counters tops.now (one visits) largest }
+pub fn counters_after(tops: &[u8; 32], visits: u8, largest: [u8; 32]) -> [u8; 32]
+    ensures { result ≡ stepped_counters tops.now visits largest }
 {
     let mut after = [0u8; 32];
     for r in 0..MAX_STATES {

@@ -108,8 +108,8 @@ pub fn expand_letter(
         &source.present,
         &source.vertex.counters,
     );
-    let lowered = step::counters_after(rules.tops, true, largest);
-    let others = step::counters_after(rules.tops, false, largest);
+    let lowered = step::counters_after(rules.tops, 1, largest);
+    let others = step::counters_after(rules.tops, 0, largest);
     let sides = Sides {
         accepting: rules.accepting,
         low: side_of(listed, &lowered, low_kept, low),

@@ -1,7 +1,6 @@
 -- `walk::expand_all` meets its contract. Before each place those still to come, expanded from the list that the work buffer represents, make the walk,
 -- and the steps that are kept are those of the slots so far; places are listed ones, so there are no more of them than slots. Assumes nothing.
 use mathlib.Core.Path.{ap}
-use native.Mathlib.Omega.{arith}
 use Rattle.std.proofs.lemmas.Result.{err_from_is_err_and}
 use Rattle.discovery.specs.Lists.{answered}
 use Rattle.discovery.proofs.LeftTargets.{grown_on}
@@ -19,9 +18,6 @@ returns-in_err-expand-clause-represents c =
     (expand_all_stop u.rules.left.now u.rules.right.now u.bound a.listed.now.work.now a.listed.now.count l.listed.work.now l.listed.count l.p
     l.invariant.to_go c.loop-p-test.true v.new.listed.work.now (answered v.result v.new.listed.count) v.ensures.represents _
     (ap (λ r. answered r v.new.listed.count) c.in_err-expand.was))
-
-pub loop-p-smaller : goal.loop-p-smaller
-loop-p-smaller c = let room = c.loop-p.listed.ready.room in omega (arith, c.loop-p-test.true)
 
 pub loop-p-preserved : goal.loop-p-preserved
 loop-p-preserved c =
