@@ -10,6 +10,8 @@ use lib.Dec.{T, eqb}
 use lib.ListN.{length, get_or, drop}
 use lib.Seq.{drop-cons, drop-length}
 use borrow.Author.Tests.{ne_eqb}
+use Rattle.std.specs.Prelude.{replicate}
+use Rattle.std.proofs.lemmas.List.{get_or-replicate}
 use Rattle.automaton.specs.declared.Automaton.{Automaton}
 use Rattle.automaton.specs.Ranges.{some}
 use Rattle.automaton.specs.Sets.{bit}
@@ -100,6 +102,16 @@ module _ (A : Automaton) where
         (λ t l. ap (λ (b : Bool). b && row_has values t x) (e t (omega (arith, groups.0))))
         ∙ some_cut _ (λ t. transition A p a t && row_has values t x) A.states (groups_for A.states * 4) groups.1 (λ t l. refl)
         (λ t l. ap (λ (b : Bool). b && row_has values t x) (no_target p a t l))
+
+    -- on a letter that the automaton lacks there are no targets
+    pub targets_none : (a : ℕ) → A.letters ≤ a → (values : List ℕ) (p x : ℕ) → p < A.states
+        → row_has (replicate 32 0) p x ≡ some (λ t. transition A p a t && row_has values t x) A.states 0
+    targets_none a l values p x h =
+        let few = r.few_states in
+        ap (λ (w : ℕ). bit w x) (get_or-replicate 32 p 0 0 (omega arith)) ∙ bit_zero x
+        ∙ sym (not_T_false (some (λ t. transition A p a t && row_has values t x) A.states 0)
+        (λ s. let t = some_below (λ t. transition A p a t && row_has values t x) A.states s in
+        subst T (no_letter_lem p a t.0 l) (and_both (transition A p a t.0) (row_has values t.0 x) t.2).0))
 
     -- One letter in front of the loop word.
 

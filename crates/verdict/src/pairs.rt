@@ -35,33 +35,15 @@ fn met_pairs(valid: Valid, pairs: &[u64; MAX_STATES], after: &mut [u64; MAX_STAT
     }
 }
 
-// The targets of p on the letter; there are none where the automaton lacks the letter.
-#[tactic(auto, using(crate::proofs::WordSets::bit_of_transition, crate::proofs::WordSets::no_letter_lem, automaton::proofs::Bits::bit_zero))]
-fn targets(valid: Valid, p: usize, letter: u8) -> u32
-    requires { p < 32 }
-    ensures { (q : ℕ) → q < 32 → bit result q ≡ transition valid.entry.automaton.now p letter q }
-{
-    let a = letter as usize;
-    if a < valid.automaton.letters {
-        relations::row(valid.automaton, p, a)
-    } else {
-        0
-    }
-}
-
-// The pair of each state becomes the union of the values of its targets on the letter; the table has the unions of their choices.
-fn join_pairs(
-    valid: Valid,
-    letter: u8,
-    table: &[u64; unions::ENTRIES],
-    pairs: &mut [u64; MAX_STATES],
-)
+// The pair of each state becomes the union of the values of its targets on letter a; the table has the unions of their choices.
+fn join_pairs(valid: Valid, a: usize, table: &[u64; unions::ENTRIES], pairs: &mut [u64; MAX_STATES])
+    requires { a < valid.automaton.now.letters }
     ensures { let A = valid.entry.automaton.now in (values : List ℕ) → Unions table.now values (groups_for A.states)
-        → (p x : ℕ) → p < A.states → row_has pairs.new p x ≡ some (λ t. transition A p letter t && row_has values t x) A.states 0 }
+        → (p x : ℕ) → p < A.states → row_has pairs.new p x ≡ some (λ t. transition A p a t && row_has values t x) A.states 0 }
 {
     let n = valid.automaton.states;
     for p in 0..n {
-        pairs[p] = unions::union(table, n, targets(valid, p, letter) as u64);
+        pairs[p] = unions::union(table, n, relations::row(valid.automaton, p, a) as u64);
     }
 }
 
@@ -76,9 +58,14 @@ fn prepend_letter(
 )
     ensures { let A = valid.entry.automaton.now in (v : List ℕ) → PairsOf A v pairs.old → PairsOf A (letter ∷ v) pairs.new }
 {
+    let a = letter as usize;
     met_pairs(valid, pairs, after);
-    unions::fill(table, after, unions::groups_for(valid.automaton.states));
-    join_pairs(valid, letter, table, pairs);
+    if a < valid.automaton.letters {
+        unions::fill(table, after, unions::groups_for(valid.automaton.states));
+        join_pairs(valid, a, table, pairs);
+    } else {
+        *pairs = [0; MAX_STATES];
+    }
 }
 
 // The states' pairs for the empty word: each state leads to itself, without a visit.

@@ -11,7 +11,7 @@ use Rattle.relations.proofs.Calls.{each_more}
 use Rattle.relations.specs.Closure.{row_has}
 use Rattle.unions.specs.Unions.{groups_for}
 use Rattle.unions.proofs.UnionTables.{named_chosen}
-use Rattle.verdict.proofs.WordSets.{targets_choose}
+use Rattle.verdict.proofs.WordSets.{bit_of_transition, targets_choose}
 use Rattle.verdict.proofs.pairs.join_pairs.Goals as goal
 
 pub loop-p-preserved : goal.loop-p-preserved
@@ -21,11 +21,11 @@ loop-p-preserved c =
     let A = a.valid.automaton.now in record {
       size = length-set l.pairs l.p c.union.result ∙ l.invariant.size;
       joined = λ values u p x h.
-          each_more (λ (p w : ℕ). bit w x ≡ some (λ t. transition A p a.letter t && row_has values t x) A.states 0) 0 l.pairs l.p c.union.result
+          each_more (λ (p w : ℕ). bit w x ≡ some (λ t. transition A p a.a t && row_has values t x) A.states 0) 0 l.pairs l.p c.union.result
           (omega (arith, l.invariant.size)) (λ j m. l.invariant.joined values u j x m)
           (c.union.ensures x
-          ∙ named_chosen a.table.now values (groups_for A.states) c.targets.result x u
-          ∙ targets_choose A a.valid.in_range l.p a.letter c.targets.result c.targets.ensures values x)
+          ∙ named_chosen a.table.now values (groups_for A.states) c.row.result x u
+          ∙ targets_choose A a.valid.in_range l.p a.a c.row.result (λ t m. c.row.ensures t m ∙ bit_of_transition A a.valid.in_range l.p a.a t (omega arith) (omega arith) m) values x)
           p h;
     }
 

@@ -14,5 +14,5 @@ abbrev pub invariant-loop-p : goal.invariant-loop-p
 invariant-loop-p l = record {
   size : length l.pairs ≡ 32;
   joined : (values : List ℕ) → Unions l.table values (groups_for l.n) → (p x : ℕ) → p < l.p
-      → row_has l.pairs p x ≡ some (λ t. transition l.valid.automaton.now p l.letter t && row_has values t x) l.n 0;
+      → row_has l.pairs p x ≡ some (λ t. transition l.valid.automaton.now p l.a t && row_has values t x) l.n 0;
 }
