@@ -1,5 +1,5 @@
 -- `read_body` meets its contract: between two parts the code holds the description so far. Assumes nothing.
-use Rattle.std.proofs.Common.{Ok, ap, ◌∙◌, length, arith}
+use Rattle.std.proofs.Common.{Ok, ap, ◌∙◌}
 use Rattle.std.proofs.lemmas.Result.{err_from_is_err_and}
 use Rattle.hanoi_reader.proofs.ReadLaws.{going_starts, going_past, going_ends, going_stops}
 use Rattle.hanoi_reader.proofs.read_body.Goals as goal
@@ -17,13 +17,6 @@ pub loop-preserved : goal.loop-preserved
 loop-preserved c =
     let g = c.loop.invariant in
     (going_past _ _ _ _ g _ _ _ _ (c.take_part.ensures _ g.held) (c.in_ok-take_part.was ∙ ap Ok c.if-branch.true)).0
-
-pub loop-smaller : goal.loop-smaller
-loop-smaller c =
-    let g = c.loop.invariant in
-    let a = (going_past _ _ _ _ g _ _ _ _ (c.take_part.ensures _ g.held) (c.in_ok-take_part.was ∙ ap Ok c.if-branch.true)).1 in
-    let t = ap (λ x. length x.now) a.text in
-    omega (arith, a.forward, t)
 
 pub returns : goal.returns
 returns c =
