@@ -20,7 +20,7 @@ use Rattle.automaton.proofs.Booleans.{or_cases, or_left, or_right, same_test}
 use Rattle.automaton.proofs.Bits.{bit_zero, member_with}
 use Rattle.tokens.specs.Tokens.{skip, touches, starts_with, stands}
 use Rattle.tokens.specs.declared.scanner.Scanner.{Scanner}
-use Rattle.tokens.specs.Scanners.{Ahead}
+use Rattle.tokens.specs.Scanners.{Ahead, Moved}
 use Rattle.tokens.specs.Places.{token_at}
 use Rattle.tokens.proofs.Places.{token_missed, token_taken, token_skip}
 use Rattle.tokens.proofs.Runs.{skip_skip}
@@ -195,19 +195,32 @@ module _ (s : List ℕ) (i j : ℕ) (here : j ≡ skip s i) (D : Description) wh
   ended_part l e = let t = token_taken END s i l (e ∙ token_here END) in rw (part_at, t.0, t.1) refl
 
   module _ (e : None ≡ token_at END s j) where
-    pub state_part : (l : ℕ) → Some l ≡ token_at State s j → part_at s i D ≡ state_at s l D
+    state_part : (l : ℕ) → Some l ≡ token_at State s j → part_at s i D ≡ state_at s l D
     unfolding part_at
     state_part l f =
         let t = token_taken State s i l (f ∙ token_here State) in
         rw (part_at, token_missed END s i (e ∙ token_here END), t.0, t.1) refl
 
-    pub edge_part : None ≡ token_at State s j → part_at s i D ≡ expect left_bracket s j (λ l. edge_of s l D.parts D)
+    edge_part : None ≡ token_at State s j → part_at s i D ≡ expect left_bracket s j (λ l. edge_of s l D.parts D)
     unfolding part_at expect
     edge_part f =
         let a = token_missed END s i (e ∙ token_here END) in
         let b = token_missed State s i (f ∙ token_here State) in
         let c = expect_here left_bracket (λ l. edge_of s l D.parts D) in
         rw (part_at, a, b) c
+
+-- the same over the scanners between those calls: w before them, u behind the white space, y and z behind a call
+module _ (D : Description) (w u y z : Scanner) (t : u.at ≡ skip w.text.now w.at) (a : Ahead 0 w u) (k l : ℕ) (e : None ≡ token_at END u.text.now u.at)
+    (m : Moved false k u y) where
+  pub at_state : Some z.at ≡ token_at State y.text.now y.at → Moved true l y z → part_at w.text.now w.at D ≡ state_at z.text.now z.at D
+  at_state f n =
+      state_part _ _ _ t D (rw a.text at e) _ (rw (m.text, a.text, m.stays refl) at f) ∙ rw (← a.text, ← m.text, ← n.text) refl
+
+  pub at_edge : None ≡ token_at State y.text.now y.at → Moved false l y z
+      → part_at w.text.now w.at D ≡ expect left_bracket z.text.now z.at (λ i. edge_of z.text.now i D.parts D)
+  at_edge f n =
+      edge_part _ _ _ t D (rw a.text at e) (rw (m.text, a.text, m.stays refl) at f)
+      ∙ rw (← a.text, ← m.text, ← n.text, ← m.stays refl, ← n.stays refl) refl
 
 -- what it comes to, from the scanner w on that moved on to y before the step
 module _ (D : Description) (b c : Body) (A : Automaton) (w y z : Scanner) where

@@ -4,7 +4,7 @@ use Rattle.std.proofs.lemmas.Result.{err_from_is_err_and}
 use Rattle.tokens.proofs.Scanners.{ahead_moved, ahead_append}
 use Rattle.hanoi_header.proofs.ItemLaws.{missing}
 use Rattle.hanoi_reader.specs.Taking.{goes}
-use Rattle.hanoi_reader.proofs.PartLaws.{ended_part, state_part, edge_part, part_taken, end_whole, end_followed, latest_none, latest_some}
+use Rattle.hanoi_reader.proofs.PartLaws.{ended_part, at_state, at_edge, part_taken, end_whole, end_followed, latest_none, latest_some}
 use Rattle.hanoi_reader.proofs.parts.Body.take_part.Goals as goal
 
 pub returns-then-scanner : goal.returns-then-scanner
@@ -37,8 +37,7 @@ returns-then-token-2 c =
     let n = c.if-token-2.ensures in
     rw e (λ D H.
     part_taken _ _ _ _ _ _ _ _ (ahead_append t.moved (ahead_append (ahead_moved m.moved) (ahead_moved n.moved)))
-    _ _ (state_part _ _ _ t.place D (rw t.moved.text at m.meaning) _ (rw (m.moved.text, t.moved.text, m.moved.stays refl) at n.meaning)
-    ∙ rw (← t.moved.text, ← m.moved.text, ← n.moved.text) refl)
+    _ _ (at_state D _ _ _ _ t.place t.moved _ _ m.meaning m.moved n.meaning n.moved)
     (goes c.take_state.result) (c.take_state.ensures D H))
 
 pub returns-in_err-expect : goal.returns-in_err-expect
@@ -48,8 +47,7 @@ returns-in_err-expect c =
     let m = c.if-token.ensures in
     let n = c.if-token-2.ensures in
     rw (p.1, p.2) (λ D H. (
-      edge_part _ _ _ t.place D (rw t.moved.text at m.meaning) (rw (m.moved.text, t.moved.text, m.moved.stays refl) at n.meaning)
-          ∙ rw (← t.moved.text, ← m.moved.text, ← n.moved.text, ← m.moved.stays refl, ← n.moved.stays refl) (c.in_err-expect.ensures.meaning _),
+      at_edge D _ _ _ _ t.place t.moved _ _ m.meaning m.moved n.meaning n.moved ∙ c.in_err-expect.ensures.meaning _,
       H.automaton,
       refl,
     ))
@@ -62,9 +60,7 @@ returns-in_err-q c =
     let m = c.if-token.ensures in
     let n = c.if-token-2.ensures in
     rw (p.1, p.2, h.1) (λ D H. (
-      edge_part _ _ _ t.place D (rw t.moved.text at m.meaning) (rw (m.moved.text, t.moved.text, m.moved.stays refl) at n.meaning)
-          ∙ rw (← t.moved.text, ← m.moved.text, ← n.moved.text, ← m.moved.stays refl, ← n.moved.stays refl)
-          (c.in_ok-expect.ensures.meaning _ ∙ latest_none _ _ D (H.latest ∙ h.0)),
+      at_edge D _ _ _ _ t.place t.moved _ _ m.meaning m.moved n.meaning n.moved ∙ c.in_ok-expect.ensures.meaning _ ∙ latest_none _ _ D (H.latest ∙ h.0),
       H.automaton,
       refl,
     ))
@@ -78,7 +74,6 @@ returns c =
     let x = c.in_ok-expect.ensures in
     rw e (λ D H.
     part_taken _ _ _ _ _ _ _ _ (ahead_append t.moved (ahead_append (ahead_moved m.moved) (ahead_append (ahead_moved n.moved) x.ahead)))
-    _ _ (edge_part _ _ _ t.place D (rw t.moved.text at m.meaning) (rw (m.moved.text, t.moved.text, m.moved.stays refl) at n.meaning)
-    ∙ rw (← t.moved.text, ← m.moved.text, ← n.moved.text, ← m.moved.stays refl, ← n.moved.stays refl)
-    (x.meaning _ ∙ rw (← x.ahead.text) (latest_some _ _ _ D (H.latest ∙ c.in_ok-q.ensures.ok_part))))
+    _ _ (at_edge D _ _ _ _ t.place t.moved _ _ m.meaning m.moved n.meaning n.moved ∙ x.meaning _
+    ∙ rw (← x.ahead.text) (latest_some _ _ _ D (H.latest ∙ c.in_ok-q.ensures.ok_part)))
     (goes c.take_edge.result) (c.take_edge.ensures D H))
