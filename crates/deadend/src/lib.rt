@@ -13,6 +13,7 @@ use automaton::{Automaton, MAX_STATES, Valid};
 use std::array;
 
 // The targets of q on any letter.
+#[tactic(auto, using(automaton::proofs::Bits::bit_zero, automaton::proofs::Bits::bit_of_or, relations::proofs::Rows::some_none, relations::proofs::Rows::some_more))]
 fn edges(automaton: &Automaton, q: usize) -> u32
     requires { (automaton.now.letters ≤ 16) × (q < 32) }
     ensures { (r : ℕ) → r < 32 → bit result r ≡ some (λ a. transition_bit automaton.now q a r) automaton.now.letters 0 }
@@ -86,6 +87,7 @@ pub fn dead_set(valid: Valid) -> u32
 }
 
 // Whether there is a dead state.
+#[tactic(auto, using(crate::proofs::WordDeadEnds::dead_any))]
 pub fn has_dead(valid: Valid) -> bool
     ensures { result ≡ has_dead valid.entry.automaton.now }
 {
