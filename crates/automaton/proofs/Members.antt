@@ -1,68 +1,17 @@
--- Bits of a number with its low bits cleared, and the next member of a range, found byte by byte.
--- Then loops over ranges that test, sum and look for members that the header lacks: the rest from i on gives the answer of the whole. Last, that
+-- Loops over ranges that test, sum and look for members that the header lacks: the rest from i on gives the answer of the whole. Last, that
 -- between the header's states a transition is its bit. Assumes nothing.
-use mathlib.Core.Path.{◌≡◌, refl, sym, ap, ◌∙◌}
+use mathlib.Core.Path.{◌≡◌, refl, ap, ◌∙◌}
 use mathlib.Core.Bool.{Bool, true, false, ◌&&◌, ◌||◌, not}
 use mathlib.Core.List.{List, ◌∷◌}
-use Prim.Native.Nat.{ℕ, zero, suc, ◌+◌, ◌-◌, ◌*◌, ◌/◌, ◌%◌, ◌^◌, ◌≤◌, ◌<◌}
-use native.Mathlib.Nat.{mul_assoc}
+use Prim.Native.Nat.{ℕ, zero, suc, ◌+◌, ◌-◌, ◌≤◌, ◌<◌}
 use native.Mathlib.Omega.{arith}
-use lib.Bits.{shifted_even}
-use lib.Dec.{eqb, ltb}
-use lib.Pow.{pow-add, shl-shr, shr-shr}
+use lib.Dec.{ltb}
 use borrow.Author.Tests.{lt-ltb, le-ltb}
 use Rattle.automaton.specs.declared.Automaton.{Automaton}
-use Rattle.automaton.specs.Ranges.{some, next_from, those, total}
-use Rattle.automaton.specs.Sets.{bit, least_member}
-use Rattle.automaton.specs.Automata.{transition, targets, one, transition_count}
-use Rattle.automaton.specs.Members.{transition_in, count_from}
-use Rattle.automaton.proofs.Ranges.{same_along, next_skip, next_is}
-use Rattle.automaton.proofs.LeastMembers.{least_holds, least_before}
-
--- Bits.
-
--- division and multiplication by 2 ^ k clear the bits below k ..
-pub bit_cleared : (w k i : ℕ) → i < k → bit (w / 2 ^ k * 2 ^ k) i ≡ false
-bit_cleared w k i h = go (k - suc i) (omega arith)
-  where
-    go : (d : ℕ) → k ≡ suc d + i → bit (w / 2 ^ k * 2 ^ k) i ≡ false
-    go d e =
-        ap (λ (n : ℕ). eqb (n / 2 ^ i % 2) 1)
-        (ap (λ (x : ℕ). w / 2 ^ k * 2 ^ x) e
-        ∙ ap (λ (x : ℕ). w / 2 ^ k * x) (pow-add 2 (suc d) i)
-        ∙ sym (mul_assoc (w / 2 ^ k) (2 ^ suc d) (2 ^ i)))
-        ∙ ap (λ (n : ℕ). eqb (n % 2) 1) (shl-shr (w / 2 ^ k * 2 ^ suc d) i)
-        ∙ ap (λ (n : ℕ). eqb n 1) (shifted_even (w / 2 ^ k) d)
-
--- .. and keep the others
-pub bit_kept : (w k i : ℕ) → k ≤ i → bit (w / 2 ^ k * 2 ^ k) i ≡ bit w i
-bit_kept w k i h = go (i - k) (omega arith)
-  where
-    go : (d : ℕ) → i ≡ k + d → bit (w / 2 ^ k * 2 ^ k) i ≡ bit w i
-    go d e =
-        ap (λ (n : ℕ). eqb (n % 2) 1)
-        (ap (λ (x : ℕ). w / 2 ^ k * 2 ^ k / 2 ^ x) e
-        ∙ sym (shr-shr (w / 2 ^ k * 2 ^ k) k d)
-        ∙ ap (λ (x : ℕ). x / 2 ^ d) (shl-shr (w / 2 ^ k) k)
-        ∙ shr-shr w k d
-        ∙ ap (λ (x : ℕ). w / 2 ^ x) (sym e))
-
--- The next member is found byte by byte: v is the byte of the numbers from b * 8 on, and n its least member.
-
-module _ (f : ℕ → Bool) (b v n : ℕ) (least : n ≡ least_member v) (in-byte : (k : ℕ) → k < 8 → f (b * 8 + k) ≡ bit v k) where
-  none_before : (j : ℕ) → b * 8 ≤ j → j < b * 8 + 8 → j < b * 8 + n → f j ≡ false
-  none_before j h u l = go (j - b * 8) (omega arith)
-    where
-      go : (k : ℕ) → j ≡ b * 8 + k → f j ≡ false
-      go k e = ap f e ∙ in-byte k (omega arith) ∙ least_before v k (omega arith)
-
-  pub next_in_byte : (m : ℕ) → b * 8 + 8 ≤ m → n < 8 → next_from f (m - b * 8) (b * 8) ≡ b * 8 + n
-  next_in_byte m h l =
-      next_is f m (b * 8) (b * 8 + n) (omega arith) (omega arith) (in-byte n l ∙ rw least (least_holds v (rw least at l)))
-      (λ j p q. none_before j p (omega arith) q)
-
-  pub next_past_byte : (m j : ℕ) → j ≡ b * 8 + 8 → j ≤ m → 8 ≤ n → next_from f (m - b * 8) (b * 8) ≡ next_from f (m - j) j
-  next_past_byte m j d h l = next_skip f m (b * 8) j (omega arith) h (λ k p q. none_before k p (omega arith) (omega arith))
+use Rattle.automaton.specs.Ranges.{some, those, total}
+use Rattle.automaton.specs.Automata.{transition}
+use Rattle.automaton.specs.Members.{transition_in}
+use Rattle.automaton.proofs.Ranges.{same_along}
 
 -- Loops over a range of m numbers: at i the numbers below i are done, and the rest starts at i.
 
@@ -155,14 +104,3 @@ module _ (A : Automaton) where
       → transition A q a r ≡ transition_in A.transitions q a r
   unfolding transition
   transition_bit_lem q a r h l u = rw (lt-ltb q A.states h, lt-ltb a A.letters l, lt-ltb r A.states u)
-
-  pub targets_bits : (q a : ℕ) → q < A.states → a < A.letters
-      → targets A q a ≡ those (transition_in A.transitions q a) A.states 0
-  unfolding targets
-  targets_bits q a h l = those_same _ _ A.states 0 (λ r _ u. transition_bit_lem q a r h l (omega arith))
-
-  pub count_bits : total (count_from A.transitions A.states A.letters) A.states 0 ≡ transition_count A
-  unfolding transition_count
-  count_bits =
-      total_same _ _ A.states 0 (λ q _ h. total_same _ _ A.letters 0 (λ a _ l. total_same _ _ A.states 0
-      (λ r _ u. ap one (sym (transition_bit_lem q a r (omega arith) (omega arith) (omega arith))))))

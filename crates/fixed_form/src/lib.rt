@@ -2,7 +2,7 @@
 // is no code here but the type of a refusal; the crate `writer` has it.
 #![tactic(auto)]
 
-// Why nothing is written: what was to be written is refused, or the buffer is too short, with the length needed (refusal 16).
+// Why nothing is written: what was to be written is refused, or the bytes find no room (16), and then it says how many they are.
 #[derive(Clone, Copy, Debug, PartialEq, Eq)]
 pub enum WriteRefusal<R> {
     Unread(R),
