@@ -78,9 +78,6 @@ some_cut f g n m l e none =
 
 -- Words.
 
-pub power_word : (q : ℕ) → q < 32 → 2 ^ q < 4294967296
-power_word q h = let l : 2 ^ q ≤ 2 ^ 31 = pow-le-pow_right (omega arith) {i = q} {j = 31} (omega arith) in omega arith
-
 -- the bits below k of a number and those from k on
 pub bit_low : (k a r i : ℕ) → i < k → bit (a * 2 ^ k + r) i ≡ bit r i
 bit_low zero a r i h = absurd (omega arith)
