@@ -15,7 +15,7 @@ mod states;
 
 pub use states::{States, states_below, states_of};
 
-// Whether state q is in the set.
+// Whether state q is in the set. This and `with_state` stand beside those of `automaton` for a byte: a trait of both would have both bodies again.
 pub fn has(set: u32, q: usize) -> bool
     requires { q < 32 }
     ensures { result ≡ bit set q }
@@ -94,7 +94,7 @@ fn with_row(set: u32, from: u32, p: usize, row: u32) -> u32
     if has(from, p) { set | row } else { set }
 }
 
-// The rows below are those of an array for 32 states, of which the first n are used: slices of them would say no more than n.
+// The rows below are those of an array for 32 states, of which the first n are used: slices of them, or a struct of the array and n, would say no more than n.
 
 // The states to which the first n rows relate a state of the set.
 pub fn spread(rows: &[u32], set: u32, n: usize) -> u32
