@@ -1,8 +1,7 @@
 // The contain call: whether a first automaton is contained in a second at a bound. The crate `answers` says what it answers and leaves.
 #![tactic(auto)]
 
-ghost use Rattle.std.specs.Prelude.{◌≡◌, ◌≤◌};
-ghost use Rattle.graph.specs.LagGraph.{max_bound};
+ghost use Rattle.std.specs.Prelude.{◌≡◌};
 ghost use Rattle.answers.specs.Outcomes.{comparison_of, outcome_for};
 ghost use Rattle.answers.specs.Contain.{differing, comparing, deciding, containing};
 ghost use Rattle.answers.specs.Demand1.{Demand1};
@@ -11,9 +10,7 @@ ghost use Rattle.answers.specs.Demand2.{Demand2};
 use answers::{ContainRefusal, Containment, WalkRefusal};
 use automaton::{Automaton, Valid};
 use discovery::Stop;
-
-// The largest bound.
-pub const MAX_BOUND: u64 = 14;
+use graph::Bound;
 
 // What a final vertex at a place with a word of len letters comes to, where there is room for so many.
 fn differing(place: usize, len: usize, room: usize) -> Result<Containment, WalkRefusal>
@@ -31,17 +28,16 @@ fn differing(place: usize, len: usize, room: usize) -> Result<Containment, WalkR
 pub fn compare(
     left: Valid,
     right: Valid,
-    bound: usize,
+    bound: Bound,
     work: &mut [u8],
     word: &mut [u8],
 ) -> Result<Containment, WalkRefusal>
-    requires { bound ≤ max_bound }
     ensures answer { comparison_of result
-        ≡ (comparing left.entry.automaton.now right.entry.automaton.now bound work.old word.old).answer }
+        ≡ (comparing left.entry.automaton.now right.entry.automaton.now bound.value work.old word.old).answer }
     ensures work { work.new
-        ≡ (comparing left.entry.automaton.now right.entry.automaton.now bound work.old word.old).work }
+        ≡ (comparing left.entry.automaton.now right.entry.automaton.now bound.value work.old word.old).work }
     ensures word { word.new
-        ≡ (comparing left.entry.automaton.now right.entry.automaton.now bound work.old word.old).word }
+        ≡ (comparing left.entry.automaton.now right.entry.automaton.now bound.value work.old word.old).word }
 {
     match walk::walk(left, right, bound, work) {
         Ok(count) => Ok(Containment::Contained(count)),
@@ -75,9 +71,7 @@ fn decide(
     ensures word { word.new
         ≡ (deciding left.entry.automaton.now right.entry.automaton.now bound work.old word.old).word }
 {
-    if bound > MAX_BOUND {
-        return Err(ContainRefusal::Bound);
-    }
+    let bound = Bound::new(bound).ok_or(ContainRefusal::Bound)?;
     if left.automaton.letters != right.automaton.letters {
         return Err(ContainRefusal::Letters);
     }
@@ -87,7 +81,7 @@ fn decide(
     if deadend::has_dead(right) {
         return Err(ContainRefusal::SecondDead);
     }
-    compare(left, right, bound as usize, work, word).map_err(ContainRefusal::Walk)
+    compare(left, right, bound, work, word).map_err(ContainRefusal::Walk)
 }
 
 // Whether the first file's automaton is contained in the second's at the bound: the outcome, every byte of work and word, and

@@ -1,7 +1,6 @@
 // The offer call on an entry.
 ghost use Rattle.std.specs.Prelude.{◌≡◌, ◌≤◌, length, take};
 ghost use Rattle.automaton.specs.Automata.{InRange};
-ghost use Rattle.graph.specs.LagGraph.{max_bound};
 ghost use Rattle.answers.specs.Outcomes.{comparison_of};
 ghost use Rattle.history.specs.OfferAnswers.{offer_answer_of};
 ghost use Rattle.history.specs.OfferDemand.{OfferDemand1};
@@ -21,17 +20,16 @@ ghost use Rattle.entry.specs.Vetting.{VettedBy};
 use answers::{Containment, WalkRefusal};
 use automaton::{Automaton, Valid};
 use conditions::{MAX_EDITION, malformed, smaller};
-use contain::{MAX_BOUND, compare};
+use contain::compare;
+use graph::Bound;
 use history::{Entry, OfferRefusal, Offered, Walk};
 
-// The checks of the offered automaton, against an entry whose automaton is in range.
-fn vet(entry: &Entry, offer: Valid, bound: u64) -> Result<(), OfferRefusal>
+// The checks of an offer, against an entry whose automaton is in range: the bound that passes.
+fn vet(entry: &Entry, offer: Valid, bound: u64) -> Result<Bound, OfferRefusal>
     requires { InRange entry.now.held }
-    ensures { VettedBy result (offer_vetting entry.now bound offer.entry.automaton.now) offer.entry.automaton.now }
+    ensures { VettedBy result bound (offer_vetting entry.now bound offer.entry.automaton.now) offer.entry.automaton.now }
 {
-    if bound > MAX_BOUND {
-        return Err(OfferRefusal::Bound);
-    }
+    let bound = Bound::new(bound).ok_or(OfferRefusal::Bound)?;
     if entry.held.letters != offer.automaton.letters {
         return Err(OfferRefusal::Letters);
     }
@@ -44,7 +42,7 @@ fn vet(entry: &Entry, offer: Valid, bound: u64) -> Result<(), OfferRefusal>
     if !smaller(offer, held) || entry.edition == MAX_EDITION {
         return Err(OfferRefusal::NotSmaller);
     }
-    Ok(())
+    Ok(bound)
 }
 
 // The answer by the back walk, after a forward walk of so many vertices.
@@ -69,17 +67,16 @@ fn back_answer(
 fn walk_both(
     held: Valid,
     offer: Valid,
-    bound: usize,
+    bound: Bound,
     work: &mut [u8],
     word: &mut [u8],
 ) -> Result<Offered, OfferRefusal>
-    requires { bound ≤ max_bound }
     ensures answer { offer_answer_of result
-        ≡ walks_answer (walks_of held.entry.automaton.now offer.entry.automaton.now bound work.old word.old) }
+        ≡ walks_answer (walks_of held.entry.automaton.now offer.entry.automaton.now bound.value work.old word.old) }
     ensures work { work.new
-        ≡ walks_work (walks_of held.entry.automaton.now offer.entry.automaton.now bound work.old word.old) }
+        ≡ walks_work (walks_of held.entry.automaton.now offer.entry.automaton.now bound.value work.old word.old) }
     ensures word { word.new
-        ≡ walks_word (walks_of held.entry.automaton.now offer.entry.automaton.now bound work.old word.old) }
+        ≡ walks_word (walks_of held.entry.automaton.now offer.entry.automaton.now bound.value work.old word.old) }
 {
     match compare(held, offer, bound, work, word) {
         Ok(Containment::Contained(forward)) => back_answer(
@@ -128,11 +125,11 @@ pub fn offer_entry(
     let offer = Valid {
         automaton: &automaton,
     };
-    vet(entry, offer, bound)?;
+    let bound = vet(entry, offer, bound)?;
     let held = Valid {
         automaton: &entry.held,
     };
-    let offered = walk_both(held, offer, bound as usize, work, word);
+    let offered = walk_both(held, offer, bound, work, word);
     if is_taken(offered) {
         entry.edition += 1;
         entry.held = automaton;

@@ -5,7 +5,6 @@
 ghost use Rattle.std.specs.Prelude.{◌≡◌, cond, ◌&&◌, not, ◌+◌, ◌<◌, ◌≤◌, max, min, ltb, length, get_or};
 ghost use Rattle.automaton.specs.Automata.{max_states};
 ghost use Rattle.automaton.specs.Ranges.{table};
-ghost use Rattle.graph.specs.LagGraph.{max_bound};
 ghost use Rattle.step.specs.Masks.{row_place};
 ghost use Rattle.step.specs.Steps.{PresentOf, all_largest, tops_of, counter_at, stepped_counters, initial_from};
 
@@ -13,6 +12,7 @@ pub mod masks;
 pub mod present;
 
 use automaton::{Automaton, MAX_STATES, is_member};
+use graph::Bound;
 use present::Present;
 use slots::Vertex;
 
@@ -100,22 +100,21 @@ pub fn counters_after(tops: &[u8; 32], visits: u8, largest: [u8; 32]) -> [u8; 32
 }
 
 // The counter of the right initial state in the initial vertex.
-fn first_counter(left_accepts: bool, right_accepts: bool, bound: usize) -> u8
-    requires { bound ≤ max_bound }
-    ensures { result ≡ cond (left_accepts && not right_accepts) bound (bound + 1) }
+fn first_counter(left_accepts: bool, right_accepts: bool, bound: Bound) -> u8
+    ensures { result ≡ cond (left_accepts && not right_accepts) bound.value (bound.value + 1) }
 {
     if left_accepts && !right_accepts {
-        bound as u8
+        bound.value as u8
     } else {
-        (bound + 1) as u8
+        (bound.value + 1) as u8
     }
 }
 
 // The initial vertex of two automata.
 #[tactic(auto, using(crate::proofs::Steps::initial_made))]
-pub fn initial_vertex(left: &Automaton, right: &Automaton, bound: usize) -> Vertex
-    requires { (left.now.initial < max_states) × (right.now.initial < max_states) × (bound ≤ max_bound) }
-    ensures { result ≡ initial_from left.now.initial left.now.accepting right.now.initial right.now.accepting bound }
+pub fn initial_vertex(left: &Automaton, right: &Automaton, bound: Bound) -> Vertex
+    requires { (left.now.initial < max_states) × (right.now.initial < max_states) }
+    ensures { result ≡ initial_from left.now.initial left.now.accepting right.now.initial right.now.accepting bound.value }
 {
     let left_accepts = is_member(&left.accepting, left.initial);
     let right_accepts = is_member(&right.accepting, right.initial);

@@ -6,4 +6,4 @@ use Rattle.graph.specs.LagGraph.{lag_graph}
 use Rattle.walk.specs.declared.pair.Pair.{Pair}
 
 abbrev pub graph_of : Pair → Graph
-graph_of pair = lag_graph pair.rules.left.now pair.rules.right.now pair.bound
+graph_of pair = lag_graph pair.rules.left.now pair.rules.right.now pair.bound.value

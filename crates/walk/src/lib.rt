@@ -6,7 +6,7 @@ ghost use Rattle.automaton.specs.Automata.{max_states};
 ghost use Rattle.slots.specs.Slots.{slot_count, all_zero};
 ghost use Rattle.slots.specs.Bytes.{Falls};
 ghost use Rattle.graph.specs.Discovery.{below, expand as expanding, expand_all as expanding_all};
-ghost use Rattle.graph.specs.LagGraph.{max_bound, initial_vertex};
+ghost use Rattle.graph.specs.LagGraph.{initial_vertex};
 ghost use Rattle.graph.specs.Walks.{walk_of, work_after, word_after};
 ghost use Rattle.discovery.specs.Representation.{walked_of, Represents};
 ghost use Rattle.discovery.specs.Lists.{Makes, Grown};
@@ -19,6 +19,7 @@ mod pair;
 use automaton::Valid;
 use classes::{Class, Edge, Index, Slot};
 use discovery::{Listed, Stop};
+use graph::Bound;
 use kept::Kept;
 use pair::Pair;
 use slots::Vertex;
@@ -65,10 +66,10 @@ fn expand_all(pair: &Pair, listed: &mut Listed) -> Result<(), Stop>
 
 // The walk from the initial vertex on, which is not final and for which there is a slot.
 fn walk_from(pair: &Pair, work: &mut [u8], first: Vertex) -> Result<usize, Stop>
-    requires { (first ≡ initial_vertex pair.now.rules.left.now pair.now.rules.right.now pair.now.bound)
+    requires { (first ≡ initial_vertex pair.now.rules.left.now pair.now.rules.right.now pair.now.bound.value)
         × (all_zero first.counters ≡ false) × (0 < slot_count (length work.old)) }
     ensures { Represents work.new result work.old
-        (walk_of pair.now.rules.left.now pair.now.rules.right.now pair.now.bound (slot_count (length work.old))) }
+        (walk_of pair.now.rules.left.now pair.now.rules.right.now pair.now.bound.value (slot_count (length work.old))) }
 {
     let mut index = Index::empty();
     let class = Class {
@@ -97,17 +98,17 @@ fn walk_from(pair: &Pair, work: &mut [u8], first: Vertex) -> Result<usize, Stop>
 fn walk_with<const N: usize>(
     left: Valid,
     right: Valid,
-    bound: usize,
+    bound: Bound,
     work: &mut [u8],
     first: Vertex,
 ) -> Result<usize, Stop>
-    requires { (bound ≤ max_bound) × (left.automaton.now.letters * right.automaton.now.states * max_states ≤ N) × (N ≤ 16384)
-        × (first ≡ initial_vertex left.automaton.now right.automaton.now bound)
+    requires { (left.automaton.now.letters * right.automaton.now.states * max_states ≤ N) × (N ≤ 16384)
+        × (first ≡ initial_vertex left.automaton.now right.automaton.now bound.value)
         × (all_zero first.counters ≡ false) × (0 < slot_count (length work.old)) }
     ensures { Represents work.new result work.old
-        (walk_of left.entry.automaton.now right.entry.automaton.now bound (slot_count (length work.old))) }
+        (walk_of left.entry.automaton.now right.entry.automaton.now bound.value (slot_count (length work.old))) }
 {
-    let tops = step::tops_of(right.automaton, (bound + 1) as u8);
+    let tops = step::tops_of(right.automaton, (bound.value + 1) as u8);
     let mut masks = [0u8; N];
     step::masks::fill(&mut masks, right.automaton, left.automaton.letters);
     let rules = Rules {
@@ -122,12 +123,11 @@ fn walk_with<const N: usize>(
 
 // The walk of the lag-checking graph of two automata at a bound: the number of vertices listed, or why the list ends. The slots that it takes are
 // written from the start of work. The initial vertex comes before any array is cleared, and no more masks are cleared than the two automata need.
-pub fn walk(left: Valid, right: Valid, bound: usize, work: &mut [u8]) -> Result<usize, Stop>
-    requires { bound ≤ max_bound }
+pub fn walk(left: Valid, right: Valid, bound: Bound, work: &mut [u8]) -> Result<usize, Stop>
     ensures answer { result ≡ walked_of (slot_count (length work.old))
-        (walk_of left.entry.automaton.now right.entry.automaton.now bound (slot_count (length work.old))) }
+        (walk_of left.entry.automaton.now right.entry.automaton.now bound.value (slot_count (length work.old))) }
     ensures bytes { work.new ≡ work_after work.old
-        (walk_of left.entry.automaton.now right.entry.automaton.now bound (slot_count (length work.old))) }
+        (walk_of left.entry.automaton.now right.entry.automaton.now bound.value (slot_count (length work.old))) }
 {
     let first = step::initial_vertex(left.automaton, right.automaton, bound);
     if classes::all_zero(&first.counters) {

@@ -8,7 +8,7 @@ pub final_word-len-requires : goal.final_word-len-requires
 final_word-len-requires c =
     let a = c.args in
     let g = c.in-Err-Final in
-    final_readable a.left.automaton.now a.right.automaton.now a.bound a.work.now _ _ _ _ a.left.in_range
+    final_readable a.left.automaton.now a.right.automaton.now a.bound.value a.work.now _ _ _ _ a.left.in_range
     (sym (g.is ∙ ap Err g.field-0-is) ∙ c.walk.ensures.answer) c.walk.ensures.bytes
 
 pub returns-in-Err-Final-clause-answer : goal.returns-in-Err-Final-clause-answer
@@ -16,7 +16,7 @@ returns-in-Err-Final-clause-answer c =
     let a = c.args in
     let g = c.in-Err-Final in
     c.differing.ensures
-    ∙ final_answer a.left.automaton.now a.right.automaton.now a.bound a.work.now _ _ _ _ a.left.in_range
+    ∙ final_answer a.left.automaton.now a.right.automaton.now a.bound.value a.work.now _ _ _ _ a.left.in_range
     (sym (g.is ∙ ap Err g.field-0-is) ∙ c.walk.ensures.answer) c.walk.ensures.bytes a.word.now _ _ c.final_word-len.auto.word
     c.final_word-len.ensures.count
 
@@ -24,5 +24,5 @@ pub returns-in-Err-Final-clause-word : goal.returns-in-Err-Final-clause-word
 returns-in-Err-Final-clause-word c =
     let a = c.args in
     let g = c.in-Err-Final in
-    final_letters a.left.automaton.now a.right.automaton.now a.bound a.work.now _ _ _ _ a.left.in_range
+    final_letters a.left.automaton.now a.right.automaton.now a.bound.value a.work.now _ _ _ _ a.left.in_range
     (sym (g.is ∙ ap Err g.field-0-is) ∙ c.walk.ensures.answer) c.walk.ensures.bytes a.word.now _ c.final_word-len.ensures.letters

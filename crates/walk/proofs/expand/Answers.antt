@@ -30,7 +30,7 @@ loop-letter-init c =
       grown = grown_none l;
       lines = b.0;
       owns = subst (λ (f : List ℕ). Owns l o.result f o.new.self.owners) (sym (ap (λ (x : Vertex). x.counters) v.ensures)) b.1;
-      to_go = letters_start u.rules.left.now u.rules.right.now u.bound v.result a.p l.work.now l.count v.ensures c.requires.0;
+      to_go = letters_start u.rules.left.now u.rules.right.now u.bound.value v.result a.p l.work.now l.count v.ensures c.requires.0;
     }
 
 pub expand_letter-requires : goal.expand_letter-requires
@@ -54,9 +54,9 @@ returns-in_err-expand_letter-clause-represents c =
     let l = c.loop-letter in
     let p = err_from_is_err_and c.from_residual.result c.from_residual.ensures.1 in
     rw (p.1, p.2)
-    (letters_stop u.rules.left.now u.rules.right.now u.bound c.vertex-vertex.result a.p a.listed.now.work.now a.listed.now.count l.listed.work.now
+    (letters_stop u.rules.left.now u.rules.right.now u.bound.value c.vertex-vertex.result a.p a.listed.now.work.now a.listed.now.count l.listed.work.now
     l.listed.count l.letter l.invariant.to_go c.loop-letter-test.true v.new.listed.work.now (answered v.result v.new.listed.count)
-    (v.ensures.represents u.rules.left.now u.rules.right.now u.bound u.rules_of) _
+    (v.ensures.represents u.rules.left.now u.rules.right.now u.bound.value u.rules_of) _
     (ap (λ r. answered r v.new.listed.count) c.in_err-expand_letter.was))
 
 pub returns-in_err-expand_letter-clause-lines : goal.returns-in_err-expand_letter-clause-lines
@@ -82,9 +82,9 @@ loop-letter-preserved c =
       grown = grown_on a.listed.now l.listed v.new.listed i.grown v.ensures.grows;
       lines = K.0;
       owns = K.1;
-      to_go = letters_next u.rules.left.now u.rules.right.now u.bound c.vertex-vertex.result a.p a.listed.now.work.now a.listed.now.count
+      to_go = letters_next u.rules.left.now u.rules.right.now u.bound.value c.vertex-vertex.result a.p a.listed.now.work.now a.listed.now.count
           l.listed.work.now l.listed.count l.letter i.to_go c.loop-letter-test.true v.new.listed.work.now (answered v.result v.new.listed.count)
-          (v.ensures.represents u.rules.left.now u.rules.right.now u.bound u.rules_of) _
+          (v.ensures.represents u.rules.left.now u.rules.right.now u.bound.value u.rules_of) _
           (ap (λ r. answered r v.new.listed.count) c.in_ok-expand_letter.was);
     }
 
@@ -93,5 +93,5 @@ returns-clause-represents c =
     let a = c.args in
     let u = a.pair.now in
     let l = c.loop-letter in
-    letters_end u.rules.left.now u.rules.right.now u.bound c.vertex-vertex.result a.p a.listed.now.work.now a.listed.now.count l.listed.work.now
+    letters_end u.rules.left.now u.rules.right.now u.bound.value c.vertex-vertex.result a.p a.listed.now.work.now a.listed.now.count l.listed.work.now
     l.listed.count l.letter l.invariant.to_go c.loop-letter-test.false

@@ -11,6 +11,6 @@ invariant-loop-letter l = record {
   grown : Grown l.initial.listed l.listed;
   lines : LinesKept l.pair.rules l.listed l.kept;
   owns : Owns l.listed l.line l.source.vertex.counters l.kept.owners;
-  to_go : LettersToGo l.pair.rules.left.now l.pair.rules.right.now l.pair.bound l.source.vertex l.p l.initial.listed.work.now l.initial.listed.count
+  to_go : LettersToGo l.pair.rules.left.now l.pair.rules.right.now l.pair.bound.value l.source.vertex l.p l.initial.listed.work.now l.initial.listed.count
       l.listed.work.now l.listed.count l.letter;
 }

@@ -15,7 +15,7 @@ returns-in_err-expand-clause-represents c =
     let v = c.expand in
     let p = err_from_is_err_and c.from_residual.result c.from_residual.ensures.1 in
     rw (p.1, p.2)
-    (expand_all_stop u.rules.left.now u.rules.right.now u.bound a.listed.now.work.now a.listed.now.count l.listed.work.now l.listed.count l.p
+    (expand_all_stop u.rules.left.now u.rules.right.now u.bound.value a.listed.now.work.now a.listed.now.count l.listed.work.now l.listed.count l.p
     l.invariant.to_go c.loop-p-test.true v.new.listed.work.now (answered v.result v.new.listed.count) v.ensures.represents _
     (ap (λ r. answered r v.new.listed.count) c.in_err-expand.was))
 
@@ -27,7 +27,7 @@ loop-p-preserved c =
     let v = c.expand in record {
       grown = grown_on a.listed.now l.listed v.new.listed l.invariant.grown v.ensures.grows;
       lines = v.ensures.lines;
-      to_go = expand_all_next u.rules.left.now u.rules.right.now u.bound a.listed.now.work.now a.listed.now.count l.listed.work.now l.listed.count
+      to_go = expand_all_next u.rules.left.now u.rules.right.now u.bound.value a.listed.now.work.now a.listed.now.count l.listed.work.now l.listed.count
           l.p l.invariant.to_go c.loop-p-test.true v.new.listed.work.now (answered v.result v.new.listed.count) v.ensures.represents _
           (ap (λ r. answered r v.new.listed.count) c.in_ok-expand.was);
     }
@@ -37,5 +37,5 @@ returns-clause-represents c =
     let a = c.args in
     let u = a.pair.now in
     let l = c.loop-p in
-    expand_all_end u.rules.left.now u.rules.right.now u.bound a.listed.now.work.now a.listed.now.count l.listed.work.now l.listed.count l.p
+    expand_all_end u.rules.left.now u.rules.right.now u.bound.value a.listed.now.work.now a.listed.now.count l.listed.work.now l.listed.count l.p
     l.invariant.to_go c.loop-p-test.false

@@ -11,7 +11,7 @@ abbrev pub invariant-loop-p : goal.invariant-loop-p
 invariant-loop-p l = record {
   grown : Grown l.initial.listed l.listed;
   lines : LinesKept l.pair.rules l.listed l.kept;
-  to_go : PlacesToGo l.pair.rules.left.now l.pair.rules.right.now l.pair.bound l.initial.listed.work.now l.initial.listed.count
+  to_go : PlacesToGo l.pair.rules.left.now l.pair.rules.right.now l.pair.bound.value l.initial.listed.work.now l.initial.listed.count
       l.listed.work.now l.listed.count l.p;
 }
 

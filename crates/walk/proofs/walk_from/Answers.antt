@@ -27,7 +27,7 @@ append-requires c =
     let u = a.pair.now in
     let k = c.key_of.ensures in (
       c.requires.2,
-      subst (λ (v : Vertex). v.left < max_states) (sym c.requires.0) (initial_small u.rules.left.now u.rules.right.now u.bound u.rules_of.in_range),
+      subst (λ (v : Vertex). v.left < max_states) (sym c.requires.0) (initial_small u.rules.left.now u.rules.right.now u.bound.value u.rules_of.in_range),
       k.0,
       k.1,
       rw c.empty-index.ensures (classes_begin a.work.now),
@@ -38,7 +38,7 @@ pub invariant_of-listed : goal.invariant_of-listed
 invariant_of-listed c =
     let a = c.args in
     let u = a.pair.now in record {
-      ready = ready_first u.rules.left.now u.rules.right.now u.bound a.first c.requires.0 a.work.now c.requires.1 c.requires.2 c.append.new.work
+      ready = ready_first u.rules.left.now u.rules.right.now u.bound.value a.first c.requires.0 a.work.now c.requires.1 c.requires.2 c.append.new.work
           c.append.ensures.bytes c.append.new.self u.rules_of.in_range c.append.ensures.classes;
     }
 
@@ -51,7 +51,7 @@ returns-in_err-expand_all c =
     rw (p.1, p.2)
     (same_bytes v.new.listed.work.now _ _ _ _ (search rules)
     (rw c.in_err-expand_all.was at
-    (first_slot u.rules.left.now u.rules.right.now u.bound a.first c.requires.0 a.work.now c.requires.1 c.requires.2 c.append.new.work
+    (first_slot u.rules.left.now u.rules.right.now u.bound.value a.first c.requires.0 a.work.now c.requires.1 c.requires.2 c.append.new.work
     c.append.ensures.bytes v.new.listed.work.now (answered v.result v.new.listed.count) v.ensures.represents)))
 
 pub returns : goal.returns
@@ -61,5 +61,5 @@ returns c =
     let v = c.expand_all in
     same_bytes v.new.listed.work.now _ _ _ _ (search rules)
     (rw c.in_ok-expand_all.was at
-    (first_slot u.rules.left.now u.rules.right.now u.bound a.first c.requires.0 a.work.now c.requires.1 c.requires.2 c.append.new.work
+    (first_slot u.rules.left.now u.rules.right.now u.bound.value a.first c.requires.0 a.work.now c.requires.1 c.requires.2 c.append.new.work
     c.append.ensures.bytes v.new.listed.work.now (answered v.result v.new.listed.count) v.ensures.represents))

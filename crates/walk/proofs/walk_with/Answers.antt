@@ -10,6 +10,6 @@ pub invariant_of-walk_from : goal.invariant_of-walk_from
 invariant_of-walk_from g c =
     let a = c.args in
     record {
-      rules_of = rules_hold _ a.bound a.left.in_range a.right.in_range c.of_bytes.ensures c.tops_of-tops.ensures (replicate g.row.N 0)
-          (omega (arith, length-replicate {A = ℕ} g.row.N 0, c.requires.1)) c.fill.ensures;
+      rules_of = rules_hold _ a.bound.value a.left.in_range a.right.in_range c.of_bytes.ensures c.tops_of-tops.ensures (replicate g.row.N 0)
+          (omega (arith, length-replicate {A = ℕ} g.row.N 0, c.requires.0)) c.fill.ensures;
     }

@@ -29,8 +29,8 @@ returns-then-not-entry-clause-demand1 c = offer_demand_1 _ _ _ _ _
 pub returns-in_err-map_err-clause-demand1 : goal.returns-in_err-map_err-clause-demand1
 returns-in_err-map_err-clause-demand1 c = offer_demand_1 _ _ _ _ _
 
-pub returns-in_err-vet-clause-demand1 : goal.returns-in_err-vet-clause-demand1
-returns-in_err-vet-clause-demand1 c = offer_demand_1 _ _ _ _ _
+pub returns-in_err-bound-clause-demand1 : goal.returns-in_err-bound-clause-demand1
+returns-in_err-bound-clause-demand1 c = offer_demand_1 _ _ _ _ _
 
 pub returns-then-is_taken-clause-demand1 : goal.returns-then-is_taken-clause-demand1
 returns-then-is_taken-clause-demand1 c = offer_demand_1 _ _ _ _ _
