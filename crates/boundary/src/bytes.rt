@@ -1,4 +1,4 @@
-// Entries as the bytes that cross to vendors.
+// Entries as the bytes that cross to vendors. Functions and no TryFrom or From, since entries and bytes are both of other crates, and the bytes are lent.
 ghost use Rattle.std.specs.Prelude.{◌≡◌, length};
 ghost use Rattle.boundary.specs.Bytes.{entry_length, is_entry, entry_of, entry_bytes, FitsBytes};
 

@@ -137,7 +137,7 @@ pub fn offer_entry(
     offered
 }
 
-// The length of the word that an answer comes with: 0 where there is no word.
+// The length of the word that an answer comes with: 0 where there is no word, so that the part handed out is empty then.
 pub fn part_length(offered: Result<Offered, OfferRefusal>) -> usize
     ensures { result ≡ part_length (offer_answer_of offered) }
 {

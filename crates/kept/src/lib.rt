@@ -14,8 +14,8 @@ pub const LINE_LENGTH: usize = 32;
 // The places of all lines.
 pub const PLACES: usize = LINES * LINE_LENGTH;
 
-// The class that has each line, 0 where none has it, and the places of the lines one after the other. Classes are numbers of 16 bits and no
-// options, so that the memory stays 1 KiB.
+// The class that has each line, 0 where none has it, and the places of the lines one after the other: two arrays, since a step is lent places alone. Classes are
+// numbers of 16 bits and no Options, which would take twice the fixed memory.
 #[derive(Drop)]
 pub struct Kept {
     pub owners: [u16; LINES],

@@ -30,7 +30,7 @@ use answers::{ContainRefusal, Containment};
 use boundary::bytes::{decode, encode, is_entry};
 use boundary::numbers::{offer_number, open_number, outcome_number, verdict_number, write_number};
 
-// The number of refusal 9, which bytes that are no entry get.
+// The number of refusal 9, which bytes that are no entry get: one of the C interface, since no call of `entry` can refuse what is no entry.
 const NO_ENTRY: u64 = 109;
 
 // Whether the first file's automaton is contained in the second's at the bound, as one number: kind + 2^8 count + 2^24 word
@@ -45,7 +45,7 @@ pub fn contain(first: &[u8], second: &[u8], bound: u64, work: &mut [u8], word: &
     outcome_number(contain::contain(first, second, bound, work, word))
 }
 
-// The length of the word that an outcome comes with: 0 where there is no word.
+// The length of the word that an outcome comes with: 0 where there is no word, so that the part handed out is empty then.
 fn part_length(outcome: Result<Containment, ContainRefusal>) -> usize
     ensures { result ≡ part_length (outcome_for outcome) }
 {

@@ -48,8 +48,8 @@ fn stray_on(automaton: &Automaton, q: usize, a: usize) -> bool
     relations::meets(relations::row(automaton, q, a), barred(automaton, q, a))
 }
 
-// Whether there is a transition from q that the header lacks. Every letter is tested: with an `any`, which ends early, the range test takes 2,800
-// instructions more where this one takes 1,600.
+// Whether there is a transition from q that the header lacks. Every letter is tested: with an `any`, which ends early, the range test of 32 states takes
+// 2,800 instructions more than the 1,600 that it takes so.
 #[tactic(auto, using(relations::proofs::Rows::some_none, relations::proofs::Rows::some_more))]
 fn stray_from(automaton: &Automaton, q: usize) -> bool
     requires { q < 32 }

@@ -46,7 +46,7 @@ pub fn of_bytes(set: &[u8; 4]) -> u32
     u32::from_le_bytes(*set)
 }
 
-// The targets of q on letter a.
+// The targets of q on letter a. Its four bytes by number: so written it is one load.
 pub fn row(automaton: &Automaton, q: usize, a: usize) -> u32
     requires { (q < 32) × (a < 16) }
     ensures { (r : ℕ) → r < 32 → bit result r ≡ transition_bit automaton.now q a r }

@@ -29,7 +29,8 @@ fn has_room(size: usize, letters: usize) -> bool
 }
 
 // Writes the line of an offer to the front of the buffer, and answers its length: the entry after the call, the answer and the
-// letters of the word. With less room than is asked for nothing is written. The functions for the three lines begin alike: one that takes what is
+// letters of the word. With less room than is asked for nothing is written. A length and no slice, since a slice lent on would leave no promise of the
+// whole buffer. The functions for the three lines begin alike: one that takes what is
 // written as a closure would ask for its conditions at every cursor, in more lines than it spares.
 pub fn offer_line(
     entry: &Entry,

@@ -57,7 +57,8 @@ pub fn largest_into(
     largest
 }
 
-// For each right state the counter that it is raised to: `top` where it accepts, and 0 where it does not.
+// For each right state the counter that it is raised to: `top` where it accepts, and 0 where it does not. Bytes and no Options, so that a step goes over all 32
+// at once.
 #[tactic(auto, unfolding(crate::specs::Steps::tops_of), using(crate::proofs::SteppedBytes::written_all))]
 pub fn tops_of(automaton: &Automaton, top: u8) -> [u8; 32]
     ensures { result ≡ tops_of automaton.now.accepting top }
@@ -87,7 +88,7 @@ fn counter_at(top: u8, visits: u8, largest: u8) -> u8
 }
 
 // The counters of all right states after a step to a left target. `visits` is by how much those that are not raised fall: 1 where the target
-// accepts, and 0 where it does not.
+// accepts, and 0 where it does not: a bool would bar the other numbers, of which the promise is as good.
 #[tactic(auto, unfolding(crate::specs::Steps::stepped_counters), using(crate::proofs::SteppedBytes::written_all))]
 pub fn counters_after(tops: &[u8; 32], visits: u8, largest: [u8; 32]) -> [u8; 32]
     ensures { result ≡ stepped_counters tops.now visits largest }

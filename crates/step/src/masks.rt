@@ -1,5 +1,6 @@
 // The right automaton's transitions as masks, a byte for each pair of states and letter: 255 where there is a transition from p on
 // letter a to r, and else 0, at place (a * states + p) * 32 + r. A step raises all targets of a state with a few wide operations.
+// The bytes and the number of states are two parameters, each with the room that it needs: a struct of the two would ask for the same room at each place.
 ghost use Rattle.std.specs.Prelude.{◌≡◌, ◌+◌, ◌*◌, ◌<◌, ◌≤◌, length};
 ghost use Rattle.automaton.specs.Automata.{max_states, max_letters};
 ghost use Rattle.step.specs.Masks.{mask, row_place, row_masks, letter_masks, masks_after};

@@ -1,4 +1,5 @@
-// Numbers and letters as text in a lent buffer, and the percent of states saved.
+// Numbers and letters as text in a lent buffer, and the percent of states saved. No Display and no `write!`: every byte of the buffer is promised, which a
+// formatter's contract does not say.
 #![tactic(auto)]
 
 mod parts;

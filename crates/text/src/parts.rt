@@ -7,7 +7,7 @@ ghost use Rattle.text.specs.Text.{letters as letters_text};
 use buffers::Cursor;
 use itoa::Buffer;
 
-// Writes the decimal digits of a number.
+// Writes the decimal digits of a number, for which there is room. Beside `put_decimal`, which asks for the room of the longest number.
 fn put_digits(line: &mut Cursor, n: usize)
     requires { HasRoom line.old (length (decimal n)) }
     ensures { Added line.old (decimal n) line.new }

@@ -37,7 +37,7 @@ fn name_bytes(text: &[u8]) -> usize
     text.iter().take_while(|b| is_name_byte(**b)).count()
 }
 
-// The byte at a place; 0 at the end.
+// The byte at a place; at the end 0, which is in no token. A number and no Option, since it is only compared with bytes of tokens.
 pub fn byte_at(text: &[u8], j: usize) -> u8
     ensures { result ≡ byte_at text.now j }
 {
