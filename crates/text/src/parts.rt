@@ -8,6 +8,7 @@ use buffers::Cursor;
 use itoa::Buffer;
 
 // Writes the decimal digits of a number, for which there is room. Beside `put_decimal`, which asks for the room of the longest number.
+#[tactic(auto, using(buffers::proofs::Cursors::added_as, crate::proofs::Decimals::decimal_library))]
 fn put_digits(line: &mut Cursor, n: usize)
     requires { HasRoom line.old (length (decimal n)) }
     ensures { Added line.old (decimal n) line.new }
