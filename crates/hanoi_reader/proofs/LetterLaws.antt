@@ -2,8 +2,7 @@
 -- nothing.
 use mathlib.Core.Path.{◌≡◌, refl, ap, ap₂, ◌∙◌}
 use mathlib.Core.Bool.{Bool, true, false}
-use Prim.Native.Nat.{ℕ, zero, suc, ◌+◌, ◌-◌, ◌/◌, ◌%◌, ◌^◌, ◌≤◌, ◌<◌}
-use borrow.Author.Tests.{eq-eqb, ne_eqb}
+use Prim.Native.Nat.{ℕ, zero, suc, ◌+◌, ◌-◌, ◌≤◌, ◌<◌}
 use native.Mathlib.Omega.{arith}
 use Rattle.automaton.specs.declared.Automaton.{Automaton}
 use Rattle.automaton.specs.Sets.{bit}
@@ -23,11 +22,11 @@ module _ (A : Automaton) (q m r n a : ℕ) where
       ap (λ k. with_mask A q m r k a) e
       ∙ ap₂ (λ y k. with_mask (elim y [ true ↦ with_transition A q a r | false ↦ A ]) q m r (n - (a + 1)) k) b f
 
-  pub letter_taken : a < n → m / 2 ^ a % 2 ≡ 1 → with_mask A q m r (n - a) a ≡ with_mask (with_transition A q a r) q m r (n - (a + 1)) (a + 1)
-  letter_taken h e = next_letter true (eq-eqb _ 1 e) h
+  pub letter_taken : a < n → bit m a ≡ true → with_mask A q m r (n - a) a ≡ with_mask (with_transition A q a r) q m r (n - (a + 1)) (a + 1)
+  letter_taken h e = next_letter true e h
 
-  pub letter_passed : a < n → (m / 2 ^ a % 2 ≡ 1 → ⊥) → with_mask A q m r (n - a) a ≡ with_mask A q m r (n - (a + 1)) (a + 1)
-  letter_passed h e = next_letter false (ne_eqb _ 1 e) h
+  pub letter_passed : a < n → bit m a ≡ false → with_mask A q m r (n - a) a ≡ with_mask A q m r (n - (a + 1)) (a + 1)
+  letter_passed h e = next_letter false e h
 
   pub no_letter : n ≤ a → with_mask A q m r (n - a) a ≡ A
   unfolding with_mask

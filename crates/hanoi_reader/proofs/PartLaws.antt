@@ -2,15 +2,16 @@
 -- with that part. Assumes nothing.
 use mathlib.Core.Path.{◌≡◌, refl, sym, ap, subst, ◌∙◌}
 use mathlib.Core.Bool.{Bool, true, false, ◌&&◌, ◌||◌, not}
-use mathlib.Core.Logic.{⊎_elim}
+use mathlib.Core.Logic.{⊎_elim, ∥∥₁_elim}
+use denote.Struct.Props.{props}
 use mathlib.Core.List.Memᴰ
 use mathlib.Core.List.{List, [], ◌∷◌, Memᴰ}
-use Prim.Native.Nat.{ℕ, ◌+◌, ◌/◌, ◌%◌, ◌^◌, ◌<◌}
+use Prim.Native.Nat.{ℕ, ◌+◌, ◌/◌, ◌%◌, ◌^◌, ◌≤◌, ◌<◌}
 use native.Mathlib.Omega.{arith}
 use lib.Dec.{T, eqb, leb, ltb, eqb→eq, eqb_refl}
 use lib.ListN.{length, drop, replicate, get_or-replicate, length-set}
 use borrow.Author.Tests.{eq-eqb, ne_eqb}
-use Rattle.std.specs.Prelude.{Some, None, Result, Ok, Err}
+use Rattle.std.specs.Prelude.{Option, Some, None, Result, Ok, Err}
 use Rattle.std.proofs.lemmas.Option.{none-some, same_Some}
 use Rattle.automaton.specs.declared.Automaton.{Automaton}
 use Rattle.automaton.specs.Sets.{bit, member}
@@ -38,7 +39,8 @@ use Rattle.hanoi.proofs.ReadSteps.{declared_none, declared_state, declared_edge}
 use Rattle.hanoi.proofs.TokensRead.{check_read, check_refused}
 use Rattle.hanoi_header.proofs.ItemLaws.{below_in}
 use Rattle.hanoi_reader.specs.declared.parts.Body.{Body}
-use Rattle.hanoi_reader.specs.Taking.{with_mask, latest_state, begun, Held, Taken}
+use Rattle.hanoi_reader.specs.Taking.{with_mask, latest_state, Held, Holds}
+use Rattle.hanoi_reader.specs.Bodies.{Taken}
 use Rattle.hanoi_reader.proofs.LetterLaws.{letters_mask}
 
 -- Marks, by what a call for the brace answered.
@@ -54,17 +56,17 @@ module _ (s : List ℕ) (i : ℕ) (go : Bool → ℕ → Step) where
 
 -- What is held: an automaton in range, with the description's states and letters, and a latest state that is one of these.
 
-pub held_described : {D : Description} {b : Body} {A : Automaton} → Held D b A → IsDescribed D A
+pub held_described : {D : Description} {ps : ℕ} {ds : List ℕ} {ls : Option ℕ} {A : Automaton} → Held D ps ds ls A → IsDescribed D A
 held_described {D} H = subst (IsDescribed D) (sym H.automaton) (described D H.well_formed)
 
-pub held_in_range : {D : Description} {b : Body} {A : Automaton} → Held D b A → InRange A
+pub held_in_range : {D : Description} {ps : ℕ} {ds : List ℕ} {ls : Option ℕ} {A : Automaton} → Held D ps ds ls A → InRange A
 held_in_range H = (held_described H).in_range
 
 -- a number is below the number of states exactly when it is below the automaton's
-pub held_states : {D : Description} {b : Body} {A : Automaton} → Held D b A → (v : ℕ) → ltb v D.states ≡ (leb 0 v && ltb v A.states)
+pub held_states : {D : Description} {ps : ℕ} {ds : List ℕ} {ls : Option ℕ} {A : Automaton} → Held D ps ds ls A → (v : ℕ) → ltb v D.states ≡ (leb 0 v && ltb v A.states)
 held_states {A = A} H v = ap (ltb v) (sym (held_described H).describes.states) ∙ below_in A.states v
 
-pub held_small : {D : Description} {b : Body} {A : Automaton} → Held D b A → {q : ℕ} → q < A.states → q < max_states
+pub held_small : {D : Description} {ps : ℕ} {ds : List ℕ} {ls : Option ℕ} {A : Automaton} → Held D ps ds ls A → {q : ℕ} → q < A.states → q < max_states
 held_small H h = let r = held_in_range H in omega (arith, h, r.few_states)
 
 latest_within : (n k q : ℕ) (xs : List Part) → latest_state xs ≡ Some q → ((x : Part) → Memᴰ x xs → PartWithin n k x) → q < n
@@ -72,8 +74,22 @@ latest_within n k q [] e h = absurd (none-some q e)
 latest_within n k q (declared p b ∷ xs) e h = subst (λ (m : ℕ). m < n) (same_Some p q e) (h (declared p b) (Memᴰ.head refl))
 latest_within n k q (edge p L r ∷ xs) e h = subst (λ (m : ℕ). m < n) (same_Some p q e) (h (edge p L r) (Memᴰ.head refl)).0
 
-pub held_latest : {D : Description} {b : Body} {A : Automaton} → Held D b A → (q : ℕ) → b.latest ≡ Some q → q < D.states
+pub held_latest : {D : Description} {ps : ℕ} {ds : List ℕ} {ls : Option ℕ} {A : Automaton} → Held D ps ds ls A → (q : ℕ) → ls ≡ Some q → q < D.states
 held_latest {D} H q e = latest_within D.states D.propositions q D.parts (H.latest ∙ e) H.well_formed.within
+
+-- the same where a description is known to be held, and not which
+pub record Small (l : Option ℕ) (A : Automaton) : Type 0 where
+  pub states : A.states ≤ max_states
+  pub letters : A.letters ≤ 16
+  pub latest : (q : ℕ) → l ≡ Some q → q < max_states
+
+pub holds_small : {k : ℕ} {d : List ℕ} {l : Option ℕ} {A : Automaton} → ∥ Holds k d l A ∥₁ → Small l A
+holds_small t =
+    record {
+      states = ∥∥₁_elim t (search props) (λ h. (held_in_range h.1).few_states);
+      letters = ∥∥₁_elim t (search props) (λ h. (held_in_range h.1).few_letters);
+      latest = λ q e. ∥∥₁_elim t (search props) (λ h. omega (arith, held_latest h.1 q e, h.1.well_formed.few_states));
+    }
 
 -- with one part more
 more_well_formed : {D : Description} → WellFormed D → (x : Part) → PartWithin D.states D.propositions x → WellFormed (extended x D)
@@ -91,7 +107,7 @@ more_well_formed {D} f x h =
 none_declared : (q : ℕ) → q < max_states → member (replicate 4 0) q ≡ false
 none_declared q h = ap (λ (w : ℕ). bit w (q % 8)) (get_or-replicate {A = ℕ} 4 (q / 8) 0 0 (omega (arith, h))) ∙ bit_zero (q % 8)
 
-pub held_starts : (D : Description) → WellFormed D → D.parts ≡ [] → Held D (begun D.propositions) (bare D.states (2 ^ D.propositions) D.start)
+pub held_starts : (D : Description) → WellFormed D → D.parts ≡ [] → Held D D.propositions (replicate 4 0) None (bare D.states (2 ^ D.propositions) D.start)
 unfolding automaton_of with_parts
 held_starts D f e =
     record {
@@ -114,41 +130,41 @@ swapped x q p =
     (λ t. ⊎_elim (or_right (eqb p q) x) (λ e. or_left (eqb p q) x (same_flipped q p e)) (or_cases x (eqb q p) t))
     (λ t. ⊎_elim (λ e. or_right x (eqb q p) (same_flipped p q e)) (or_left x (eqb q p)) (or_cases (eqb p q) x t))
 
-module _ {D : Description} {b : Body} {A : Automaton} (H : Held D b A) (s : List ℕ) (q k : ℕ) (small : q < A.states) where
-  pub declared_again : member b.declared q ≡ true → declaration s k q D ≡ over (refused 17)
+module _ {D : Description} {ps : ℕ} {ds : List ℕ} {ls : Option ℕ} {A : Automaton} (H : Held D ps ds ls A) (s : List ℕ) (q k : ℕ) (small : q < A.states) where
+  pub declared_again : member ds q ≡ true → declaration s k q D ≡ over (refused 17)
   declared_again e = check_refused _ 17 _ (ap not (sym (H.declares q (held_small H small)) ∙ e))
 
   -- undeclared: what the mark behind it comes to decides; t is the text by another name
-  pub undeclared : member b.declared q ≡ false → (t : List ℕ) → t ≡ s → declaration s k q D ≡ acceptance t k (λ a l. next l (extended (declared q a) D))
+  pub undeclared : member ds q ≡ false → (t : List ℕ) → t ≡ s → declaration s k q D ≡ acceptance t k (λ a l. next l (extended (declared q a) D))
   undeclared e t g =
       check_read _ 17 _ (ap not (sym (H.declares q (held_small H small)) ∙ e))
       ∙ ap (λ u. acceptance u k (λ a l. next l (extended (declared q a) D))) (sym g)
 
-  pub held_state : (a : Bool) (C : Automaton) → C ≡ with_part A (declared q a) → (c : Body) → c.propositions ≡ b.propositions
-      → c.declared ≡ with_member b.declared q → c.latest ≡ Some q → Held (extended (declared q a) D) c C
+  pub held_state : (a : Bool) (C : Automaton) → C ≡ with_part A (declared q a) → (ps' : ℕ) → ps' ≡ ps
+      → (ds' : List ℕ) → ds' ≡ with_member ds q → (ls' : Option ℕ) → ls' ≡ Some q → Held (extended (declared q a) D) ps' ds' ls' C
   unfolding automaton_of with_parts
-  held_state a C e c p d l =
+  held_state a C e ps' p ds' d ls' l =
       record {
         well_formed = more_well_formed H.well_formed (declared q a) (subst (λ (n : ℕ). q < n) (held_described H).describes.states small);
         propositions = H.propositions ∙ sym p;
         automaton = e ∙ ap (λ (B : Automaton). with_part B (declared q a)) H.automaton;
-        size = ap length d ∙ length-set b.declared _ _ ∙ H.size;
-        declares = λ v h. ap (λ x. member x v) d ∙ member_with b.declared q v (omega (arith, H.size, (held_small H small)))
+        size = ap length d ∙ length-set ds _ _ ∙ H.size;
+        declares = λ v h. ap (λ x. member x v) d ∙ member_with ds q v (omega (arith, H.size, (held_small H small)))
             ∙ ap (λ (x : Bool). x || eqb q v) (H.declares v h) ∙ swapped (is_declared v D.parts) q v ∙ sym (declared_state v q a D.parts);
         latest = sym l;
       }
 
 -- Edges, by what a call for the label answered.
 
-module _ {D : Description} {b : Body} {A : Automaton} (H : Held D b A) (s : List ℕ) (j q : ℕ) where
-  same_label : answer_of (label_at s b.propositions j) ≡ answer_of (label_at s D.propositions j)
+module _ {D : Description} {ps : ℕ} {ds : List ℕ} {ls : Option ℕ} {A : Automaton} (H : Held D ps ds ls A) (s : List ℕ) (j q : ℕ) where
+  same_label : answer_of (label_at s ps j) ≡ answer_of (label_at s D.propositions j)
   same_label = ap (λ k. answer_of (label_at s k j)) (sym H.propositions)
 
-  pub edge_unlabelled : None ≡ answer_of (label_at s b.propositions j) → edge_at s j q D ≡ over (refused 17)
+  pub edge_unlabelled : None ≡ answer_of (label_at s ps j) → edge_at s j q D ≡ over (refused 17)
   unfolding edge_at
   edge_unlabelled e = rw (answer_none (label_at s D.propositions j) (e ∙ same_label), edge_at) refl
 
-  module _ (m l : ℕ) (e : Some (m, l) ≡ answer_of (label_at s b.propositions j)) where
+  module _ (m l : ℕ) (e : Some (m, l) ≡ answer_of (label_at s ps j)) where
     pub label_read : Reads (label_at s D.propositions j) m l
     label_read = answer_some (label_at s D.propositions j) m l (e ∙ same_label)
 
@@ -161,8 +177,8 @@ module _ {D : Description} {b : Body} {A : Automaton} (H : Held D b A) (s : List
         λ u. expect right_bracket u l (λ k. expect_number u k (λ r i. check (ltb r D.states) 4 (next i (extended (edge q label_read.label r) D))))
         in rw (label_read.read, edge_at) (ap rest (sym g))
 
-    pub held_edge : (r : ℕ) → b.latest ≡ Some q → r < A.states → (C : Automaton) → C ≡ with_mask A q m r A.letters 0
-        → Held (extended (edge q label_read.label r) D) b C
+    pub held_edge : (r : ℕ) → ls ≡ Some q → r < A.states → (C : Automaton) → C ≡ with_mask A q m r A.letters 0
+        → Held (extended (edge q label_read.label r) D) ps ds ls C
     unfolding automaton_of with_parts with_part
     held_edge r g h C c =
         let L = label_read.label in
@@ -223,8 +239,8 @@ module _ (D : Description) (w u y z : Scanner) (t : u.at ≡ skip w.text.now w.a
       ∙ rw (← a.text, ← m.text, ← n.text, ← m.stays refl, ← n.stays refl) refl
 
 -- what it comes to, from the scanner w on that moved on to y before the step
-module _ (D : Description) (b c : Body) (A : Automaton) (w y z : Scanner) where
-  pub part_taken : (k : ℕ) → Ahead k w y → (v x : Step) → v ≡ x → (r : Result Bool TextRefusal) → Taken y D x b z c A r → Taken w D v b z c A r
+module _ (D : Description) (b c : Body) (w y z : Scanner) where
+  pub part_taken : (k : ℕ) → Ahead k w y → (v x : Step) → v ≡ x → (r : Result Bool TextRefusal) → Taken y D x b z c r → Taken w D v b z c r
   part_taken k m v x e (Err f) t = (e ∙ t.0, t.1, t.2)
   part_taken k m v x e (Ok false) t = (e ∙ t.0, t.1, t.2)
   part_taken k m v x e (Ok true) a = record {

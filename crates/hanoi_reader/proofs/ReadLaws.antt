@@ -4,9 +4,9 @@ use mathlib.Core.Path.{◌≡◌, refl, sym, ap, subst, ◌∙◌}
 use mathlib.Core.List.{List}
 use Prim.Native.Nat.{ℕ, zero, suc, ◌+◌, ◌^◌, ◌≤◌, ◌<◌}
 use native.Mathlib.Omega.{arith}
-use lib.ListN.{length}
+use lib.ListN.{length, replicate}
 use mathlib.Core.Bool.{Bool, true, false}
-use Rattle.std.specs.Prelude.{Result, Ok, Err, OnOk}
+use Rattle.std.specs.Prelude.{None, Result, Ok, Err, OnOk}
 use Rattle.automaton.specs.declared.Automaton.{Automaton}
 use Rattle.automaton.specs.Automata.{bare, InRange}
 use Rattle.tokens.specs.declared.scanner.Scanner.{Scanner}
@@ -29,15 +29,16 @@ use Rattle.hanoi.proofs.HanoiTheorem.{hanoi_demand_1}
 use Rattle.hanoi_header.specs.declared.Header.{Header}
 use Rattle.hanoi_header.specs.Headers.{headed_by}
 use Rattle.hanoi_reader.specs.declared.parts.Body.{Body}
-use Rattle.hanoi_reader.specs.Taking.{Headed, begun, Held, Advanced, Taken, described_past, described_before, Described, ReadTo}
+use Rattle.hanoi_reader.specs.Taking.{Headed, Held, described_past, described_before, Described, ReadTo}
+use Rattle.hanoi_reader.specs.Bodies.{HeldBy, Advanced, Taken}
 use Rattle.hanoi_reader.proofs.PartLaws.{held_starts}
 
 -- What the code holds of the text s between two steps, where the scanner is y.
 
-pub record Going (s : List ℕ) (y : Scanner) (b : Body) (A : Automaton) : Type 0 where
+pub record Going (s : List ℕ) (y : Scanner) (b : Body) : Type 0 where
   pub fuel : ℕ
   pub description : Description
-  pub held : Held description b A
+  pub held : HeldBy description b
   pub text : y.text.now ≡ s
   pub enough : length s < y.at + fuel
   pub left : body fuel s (next y.at description) ≡ read_hanoi s
@@ -53,23 +54,29 @@ unfolding described_past
 past_next zero s i E D C = refl
 past_next (suc n) s i E D C = refl
 
-pub going_starts : (y : Scanner) (h : Header) → Headed y h → (A : Automaton) → A ≡ bare h.states (2 ^ h.propositions) h.start
-    → Going y.text.now y (begun h.propositions) A
+-- the automaton of a header alone is held at the beginning of the body
+pub headed_held : (y : Scanner) (h : Header) → Headed y h → (A : Automaton) → A ≡ bare h.states (2 ^ h.propositions) h.start
+    → Held (headed_by h) h.propositions (replicate 4 0) None A
+headed_held y h H A e =
+    let D = headed_by h in
+    subst (Held D h.propositions (replicate 4 0) None) (sym e) (held_starts D (header_next_well_formed y.text.now y.at D (sym H.step)) refl)
+
+pub going_starts : (y : Scanner) (h : Header) → Headed y h → (b : Body) → HeldBy (headed_by h) b → Going y.text.now y b
 unfolding read_hanoi described_before
-going_starts y h H A e =
+going_starts y h H b held =
     let s = y.text.now in
     let D = headed_by h in
     record {
       fuel = length s;
       description = D;
-      held = subst (Held D (begun h.propositions)) (sym e) (held_starts D (header_next_well_formed s y.at D (sym H.step)) refl);
+      held = held;
       text = refl;
       enough = omega (arith, H.behind);
       left = ap (body (length s) s) H.step;
       past = past_next (length s) s y.at D D (headed 0 0 0) ∙ ap (λ (x : Step). described_past (length s) s x (headed 0 0 0)) H.step;
     }
 
-module _ (s : List ℕ) (y : Scanner) (b : Body) (A : Automaton) (g : Going s y b A) where
+module _ (s : List ℕ) (y : Scanner) (b : Body) (g : Going s y b) where
   -- one part less of the fuel
   record Stepped : Type 0 where
     rest : ℕ
@@ -96,18 +103,18 @@ module _ (s : List ℕ) (y : Scanner) (b : Body) (A : Automaton) (g : Going s y 
         sym (past_over t.rest s r g.description) ∙ ap (λ (x : Step). described_past t.rest s x g.description) (sym e) ∙ t.past,
       )
 
-  -- the step came to r, with z, c and B left
-  module _ (z : Scanner) (c : Body) (B : Automaton) (r : Result Bool TextRefusal)
-      (t : Taken y g.description (part_at y.text.now y.at g.description) b z c B r) where
+  -- the step came to r, with z and c left
+  module _ (z : Scanner) (c : Body) (r : Result Bool TextRefusal)
+      (t : Taken y g.description (part_at y.text.now y.at g.description) b z c r) where
     -- the same of the text s
-    taken : (q : Result Bool TextRefusal) → r ≡ q → Taken y g.description (part_at s y.at g.description) b z c B q
+    taken : (q : Result Bool TextRefusal) → r ≡ q → Taken y g.description (part_at s y.at g.description) b z c q
     taken q f =
-        subst (λ (x : List ℕ). Taken y g.description (part_at x y.at g.description) b z c B q) g.text
-        (subst (Taken y g.description (part_at y.text.now y.at g.description) b z c B) f t)
+        subst (λ (x : List ℕ). Taken y g.description (part_at x y.at g.description) b z c q) g.text
+        (subst (Taken y g.description (part_at y.text.now y.at g.description) b z c) f t)
 
-    pub going_past : r ≡ Ok true → Going s z c B × Ahead 1 y z
+    pub going_past : r ≡ Ok true → Going s z c × Ahead 1 y z
     going_past f =
-        let a : Advanced y (part_at s y.at g.description) z c B = taken (Ok true) f in
+        let a : Advanced y (part_at s y.at g.description) z c = taken (Ok true) f in
         let u = stepped in (
           record {
             fuel = u.rest;
@@ -123,16 +130,20 @@ module _ (s : List ℕ) (y : Scanner) (b : Body) (A : Automaton) (g : Going s y 
           a.ahead,
         )
 
-    pub going_ends : r ≡ Ok false → Described s B
+    pub going_ends : r ≡ Ok false → Described s c.automaton.now
     going_ends f =
-        let u : (part_at s y.at g.description ≡ over (describes g.description)) × (B ≡ automaton_of g.description) × (c ≡ b) = taken (Ok false) f in
+        let u : (part_at s y.at g.description ≡ over (describes g.description)) × (c.automaton.now ≡ automaton_of g.description) × (c ≡ b) = taken (Ok false) f in
         record { description = g.description; read = (over_reads (describes g.description) u.0).0; automaton = u.1 }
 
-    pub going_stops : (f : TextRefusal) → r ≡ Err f → ReadTo s (Err f) B
+    pub going_stops : (f : TextRefusal) → r ≡ Err f → ReadTo s (Err f) c.automaton.now
     going_stops f e =
-        let u : (part_at s y.at g.description ≡ over (refused (text_number f))) × (B ≡ automaton_of g.description) × (c ≡ b) = taken (Err f) e in
+        let u : (part_at s y.at g.description ≡ over (refused (text_number f))) × (c.automaton.now ≡ automaton_of g.description) × (c ≡ b) = taken (Err f) e in
         let v = over_reads (refused (text_number f)) u.0 in
         (v.0, u.1 ∙ ap automaton_of v.1)
+
+-- the automaton that is lent is the body's
+pub read_into : (s : List ℕ) (r : Result (Unit {0}) TextRefusal) (A B : Automaton) → B ≡ A → ReadTo s r A → ReadTo s r B
+read_into s r A B e = subst (ReadTo s r) (sym e)
 
 -- A text without a header.
 

@@ -1,2 +1,3 @@
 -- How the code holds a reading.
 pub mod Taking
+pub mod Bodies

@@ -3,23 +3,18 @@
 --   Headed y h          the header of the text of the scanner y is h, and y is at the body
 --   with_mask A q m r n a  A with the transitions from q to r on those of the n letters from a on whose bit is set in m
 --   latest_state xs     the state that was declared last, if there is one
---   begun k             a body of k propositions, of which nothing is read
---   Held D b A          the code holds the well-formed description D, by b and the automaton A
---   Holds b A           the code holds some description
---   Advanced y x z b A  the step x goes on where the scanner z is, ahead of y, with a description that the code holds
+--   Held D k d l A      the code holds the well-formed description D, by the k propositions, the declared states d, the latest state l and the automaton A
+--   Holds k d l A       the code holds some description
 --   goes r              a refusal, or that the reading goes on, as `take_part` answers
---   Taken y D x b z c A r  the step x, which began at the scanner y with the description D and b, came to r and left z, c and A: a refusal and the end change
---                       neither c nor A
 --   described_before s  what the text describes before its end or its first fault
 --   Described s A       the text s is read, and A is its automaton
 --   ReadTo s r A        reading s came to r, and left the automaton A of what was read
 -- Shown by `going_starts`, `going_past`, `going_ends` and `going_stops`: how a reading goes on after a step. Assumes nothing.
-use Rattle.std.specs.Prelude.{◌≡◌, Bool, true, false, List, [], ◌∷◌, ℕ, zero, suc, ◌<◌, ◌≤◌, length, replicate, Option, Some, None, Result, Ok, Err}
+use Rattle.std.specs.Prelude.{◌≡◌, Bool, true, false, List, [], ◌∷◌, ℕ, zero, suc, ◌<◌, ◌≤◌, length, Option, Some, None, Result, Ok, Err}
 use Rattle.automaton.specs.declared.Automaton.{Automaton}
 use Rattle.automaton.specs.Sets.{bit, member}
 use Rattle.automaton.specs.Automata.{max_states, with_transition}
 use Rattle.tokens.specs.declared.scanner.Scanner.{Scanner}
-use Rattle.tokens.specs.Scanners.{Ahead}
 use Rattle.hanoi.specs.declared.TextRefusal.{TextRefusal}
 use Rattle.hanoi.specs.Numbers.{text_number}
 use Rattle.hanoi.specs.Descriptions.{Part, declared, edge, Description, headed}
@@ -27,7 +22,6 @@ use Rattle.hanoi.specs.Reading.{refused, describes, Step, over, next, header, is
 use Rattle.hanoi.specs.Meaning.{automaton_of, WellFormed}
 use Rattle.hanoi_header.specs.declared.Header.{Header}
 use Rattle.hanoi_header.specs.Headers.{headed_by, InRanges}
-use Rattle.hanoi_reader.specs.declared.parts.Body.{Body}
 
 pub record Headed (y : Scanner) (h : Header) : Type 0 where
   pub step : next y.at (headed_by h) ≡ header y.text.now
@@ -43,35 +37,21 @@ latest_state [] = None
 latest_state (declared q b ∷ xs) = Some q
 latest_state (edge q L r ∷ xs) = Some q
 
-abbrev pub begun : ℕ → Body
-begun k = record { propositions = k; declared = replicate 4 0; latest = None }
-
-pub record Held (D : Description) (b : Body) (A : Automaton) : Type 0 where
+pub record Held (D : Description) (k : ℕ) (d : List ℕ) (l : Option ℕ) (A : Automaton) : Type 0 where
   pub well_formed : WellFormed D
-  pub propositions : D.propositions ≡ b.propositions
+  pub propositions : D.propositions ≡ k
   pub automaton : A ≡ automaton_of D
-  pub size : length b.declared ≡ 4
-  pub declares : (q : ℕ) → q < max_states → member b.declared q ≡ is_declared q D.parts
-  pub latest : latest_state D.parts ≡ b.latest
+  pub size : length d ≡ 4
+  pub declares : (q : ℕ) → q < max_states → member d q ≡ is_declared q D.parts
+  pub latest : latest_state D.parts ≡ l
 
 -- from the beginning of the body on there is one
-abbrev pub Holds : Body → Automaton → Type 0
-Holds b A = (D : Description) × Held D b A
-
-pub record Advanced (y : Scanner) (x : Step) (z : Scanner) (b : Body) (A : Automaton) : Type 0 where
-  pub description : Description
-  pub step : x ≡ next z.at description
-  pub held : Held description b A
-  pub ahead : Ahead 1 y z
+abbrev pub Holds : ℕ → List ℕ → Option ℕ → Automaton → Type 0
+Holds k d l A = (D : Description) × Held D k d l A
 
 abbrev pub goes : Result (Unit {0}) TextRefusal → Result Bool TextRefusal
 goes (Err f) = Err f
 goes (Ok _) = Ok true
-
-abbrev pub Taken : Scanner → Description → Step → Body → Scanner → Body → Automaton → Result Bool TextRefusal → Type 0
-Taken y D x b z c A (Err f) = (x ≡ over (refused (text_number f))) × (A ≡ automaton_of D) × (c ≡ b)
-Taken y D x b z c A (Ok false) = (x ≡ over (describes D)) × (A ≡ automaton_of D) × (c ≡ b)
-Taken y D x b z c A (Ok true) = Advanced y x z c A
 
 -- the description after the step x and the parts past it, at most n of them, with D before the step
 unfoldable pub described_past : ℕ → List ℕ → Step → Description → Description

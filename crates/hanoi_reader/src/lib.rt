@@ -39,8 +39,8 @@ fn read_body(
     requires { Headed scanner.old header × (automaton.old ≡ bare header.states (2 ^ header.propositions) header.start) }
     ensures { ReadTo scanner.old.text.now result automaton.new }
 {
-    let mut body = Body::new(header.propositions);
-    while body.take_part(scanner, automaton)? {}
+    let mut body = Body::new(header.propositions, automaton);
+    while body.take_part(scanner)? {}
     Ok(())
 }
 

@@ -1,10 +1,9 @@
 // The body of a Hanoi text: what stands at a place of it, and what it does to the automaton so far.
-ghost use Rattle.std.specs.Prelude.{◌≡◌, Bool, Some, ℕ, ◌≤◌, ◌<◌, IfOk};
+ghost use Rattle.std.specs.Prelude.{◌≡◌, Bool, ℕ, ◌≤◌, ◌<◌, IfOk};
 ghost use Rattle.tokens.specs.Scanners.{Ahead};
-ghost use Rattle.hanoi.specs.Descriptions.{Description};
-ghost use Rattle.hanoi.specs.Reading.{Step, acceptance, state_at, edge_at, part_at};
+ghost use Rattle.hanoi.specs.Reading.{Step, acceptance};
 ghost use Rattle.hanoi_header.specs.Items.{onward};
-ghost use Rattle.hanoi_reader.specs.Taking.{with_mask, begun, Held, Holds, goes, Taken};
+ghost use Rattle.hanoi_reader.specs.Taking.{with_mask, Holds};
 
 use automaton::{Automaton, add_member, is_member};
 use hanoi::TextRefusal;
@@ -12,12 +11,15 @@ use hanoi_header::{expect, number_in, numbered};
 use label_reader::label_at;
 use tokens::Scanner;
 
-// What is known of a body besides its automaton: the number of propositions, the states that are declared, and the state that the next edge belongs to.
-#[derive(Clone, Copy)]
-pub struct Body {
-    propositions: usize,
-    declared: [u8; 4],
-    latest: Option<usize>,
+// A body as far as it is read: the automaton so far, which is lent, the number of propositions, the states that are declared, and the state that the next edge
+// belongs to. It holds the description of what is read: some description, since a fact does not say which.
+#[derive(Drop)]
+pub struct Body<'a> {
+    pub automaton: &'a mut Automaton,
+    pub propositions: usize,
+    pub declared: [u8; 4],
+    pub latest: Option<usize>,
+    pub ghost holds: { ∥ Holds propositions declared latest automaton.now ∥₁ },
 }
 
 // `{0}` behind a state's number, or nothing: whether the state accepts.
@@ -39,18 +41,28 @@ fn add_letters(automaton: &mut Automaton, q: usize, mask: u16, r: usize)
     ensures { automaton.new ≡ with_mask automaton.old q mask r automaton.old.letters 0 }
 {
     for a in 0..automaton.letters {
-        if (mask >> a) % 2 == 1 {
+        if relations::has(u32::from(mask), a) {
             automaton.add_transition(q, a, r);
         }
     }
 }
 
-impl Body {
+impl<'a> Body<'a> {
+    ghost use Rattle.std.specs.Prelude.{◌≡◌, None, Some, replicate};
+    ghost use Rattle.hanoi.specs.Descriptions.{Description};
+    ghost use Rattle.hanoi.specs.Reading.{state_at, edge_at, part_at};
+    ghost use Rattle.hanoi_reader.specs.Taking.{Holds, goes};
+    ghost use Rattle.hanoi_reader.specs.Bodies.{HeldBy, Taken};
+
     // Nothing is declared yet.
-    pub fn new(propositions: usize) -> Body
-        ensures { result ≡ begun propositions }
+    pub fn new(propositions: usize, automaton: &'a mut Automaton) -> Body<'a>
+        requires { ∥ Holds propositions (replicate 4 0) None automaton.old ∥₁ }
+        ensures same_automaton { result.automaton.ghost_name ≡ automaton.entry.ghost_name }
+        ensures automaton { result.automaton.now ≡ automaton.old }
+        ensures begun { (result.propositions ≡ propositions) × (result.declared ≡ replicate 4 0) × (result.latest ≡ None) }
     {
         Body {
+            automaton,
             propositions,
             declared: [0; 4],
             latest: None,
@@ -58,16 +70,13 @@ impl Body {
     }
 
     // Takes the state behind `State:`. A refusal changes nothing.
-    fn take_state(
-        &mut self,
-        scanner: &mut Scanner,
-        automaton: &mut Automaton,
-    ) -> Result<(), TextRefusal>
-        requires { Holds self.old automaton.old }
-        ensures { (D : Description) → Held D self.old automaton.old
-            → Taken scanner.old D (state_at scanner.old.text.now scanner.old.at D) self.old scanner.new self.new automaton.new (goes result) }
+    fn take_state(&mut self, scanner: &mut Scanner) -> Result<(), TextRefusal>
+        ensures taken { (D : Description) → HeldBy D self.old
+            → Taken scanner.old D (state_at scanner.old.text.now scanner.old.at D) self.old scanner.new self.new (goes result) }
+        ensures same_automaton { self.new.automaton.ghost_name ≡ self.old.automaton.ghost_name }
     {
-        let q = number_in(scanner, 0..automaton.states, TextRefusal::OutsideHeader)?;
+        let states = 0..self.automaton.states;
+        let q = number_in(scanner, states, TextRefusal::OutsideHeader)?;
         if is_member(&self.declared, q) {
             return Err(TextRefusal::OutsideSubset);
         }
@@ -75,43 +84,35 @@ impl Body {
         add_member(&mut self.declared, q);
         self.latest = Some(q);
         if accepting {
-            automaton.add_accepting(q);
+            self.automaton.add_accepting(q);
         }
         Ok(())
     }
 
     // Takes the edge of state q behind its `[`. A refusal changes nothing.
-    fn take_edge(
-        &self,
-        scanner: &mut Scanner,
-        q: usize,
-        automaton: &mut Automaton,
-    ) -> Result<(), TextRefusal>
-        requires { (self.now.latest ≡ Some q) × Holds self.now automaton.old }
-        ensures { (D : Description) → Held D self.now automaton.old
-            → Taken scanner.old D (edge_at scanner.old.text.now scanner.old.at q D) self.now scanner.new self.now automaton.new (goes result) }
+    fn take_edge(&mut self, scanner: &mut Scanner, q: usize) -> Result<(), TextRefusal>
+        requires { self.old.latest ≡ Some q }
+        ensures taken { (D : Description) → HeldBy D self.old
+            → Taken scanner.old D (edge_at scanner.old.text.now scanner.old.at q D) self.old scanner.new self.new (goes result) }
+        ensures same_automaton { self.new.automaton.ghost_name ≡ self.old.automaton.ghost_name }
     {
         let mask = label_at(scanner, self.propositions).ok_or(TextRefusal::OutsideSubset)?;
         let r = numbered(
             scanner,
             b"]",
-            0..automaton.states,
+            0..self.automaton.states,
             TextRefusal::OutsideHeader,
         )?;
-        add_letters(automaton, q, mask, r);
+        add_letters(self.automaton, q, mask, r);
         Ok(())
     }
 
     // Takes what stands at the scanner, a state, or an edge of the latest state: whether the reading goes on. Behind the end there is nothing to take; a
     // refusal and the end change nothing.
-    pub fn take_part(
-        &mut self,
-        scanner: &mut Scanner,
-        automaton: &mut Automaton,
-    ) -> Result<bool, TextRefusal>
-        requires { Holds self.old automaton.old }
-        ensures { (D : Description) → Held D self.old automaton.old
-            → Taken scanner.old D (part_at scanner.old.text.now scanner.old.at D) self.old scanner.new self.new automaton.new result }
+    pub fn take_part(&mut self, scanner: &mut Scanner) -> Result<bool, TextRefusal>
+        ensures taken { (D : Description) → HeldBy D self.old
+            → Taken scanner.old D (part_at scanner.old.text.now scanner.old.at D) self.old scanner.new self.new result }
+        ensures same_automaton { self.new.automaton.ghost_name ≡ self.old.automaton.ghost_name }
     {
         // White space is passed once, and not by each of the three words.
         scanner.skip();
@@ -123,10 +124,10 @@ impl Body {
             return Ok(false);
         }
         if scanner.token(b"State:") {
-            return self.take_state(scanner, automaton).and(Ok(true));
+            return self.take_state(scanner).and(Ok(true));
         }
         expect(scanner, b"[")?;
         let q = self.latest.ok_or(TextRefusal::OutsideSubset)?;
-        self.take_edge(scanner, q, automaton).and(Ok(true))
+        self.take_edge(scanner, q).and(Ok(true))
     }
 }

@@ -1,22 +1,23 @@
 -- `Body::take_edge` meets its contract: the label, the bracket and the target are read, and the transitions of the label's letters added. Assumes nothing.
 use Rattle.std.proofs.Common.{refl, ap, ◌∙◌, arith}
+use Rattle.std.proofs.Math.Logic.{∥∥₁_map}
 use Rattle.std.proofs.lemmas.Result.{err_from_is_err_and}
 use Rattle.tokens.proofs.Scanners.{ahead_append}
 use Rattle.hanoi_header.proofs.ItemLaws.{missing}
-use Rattle.hanoi_reader.proofs.PartLaws.{held_in_range, held_small, held_states, held_latest, edge_unlabelled, edge_labelled, held_edge}
+use Rattle.hanoi_reader.proofs.PartLaws.{holds_small, held_states, edge_unlabelled, edge_labelled, held_edge}
 use Rattle.hanoi_reader.proofs.parts.Body.take_edge.Goals as goal
 
-pub returns-in_err-mask : goal.returns-in_err-mask
-returns-in_err-mask c =
+pub returns-in_err-mask-clause-taken : goal.returns-in_err-mask-clause-taken
+returns-in_err-mask-clause-taken c =
     let p = err_from_is_err_and c.from_residual.result c.from_residual.ensures.1 in
     let h = missing _ _ c.in_err-mask.ensures.value in
     rw (p.1, p.2, h.1) (λ D H. (edge_unlabelled H _ _ _ (rw h.0 at c.label_at.ensures.meaning), H.automaton, refl))
 
 pub numbered-requires : goal.numbered-requires
-numbered-requires c = let r = held_in_range c.requires.1.1 in omega (arith, r.few_states)
+numbered-requires c = let r = holds_small c.args.self.now.holds in omega (arith, r.states)
 
-pub returns-in_err-r : goal.returns-in_err-r
-returns-in_err-r c =
+pub returns-in_err-r-clause-taken : goal.returns-in_err-r-clause-taken
+returns-in_err-r-clause-taken c =
     let p = err_from_is_err_and c.from_residual-in_err-r.result c.from_residual-in_err-r.ensures.1 in
     let e = rw c.in_ok-mask.ensures.ok_part at c.label_at.ensures.meaning in
     let t = ap (λ x. x.now) c.label_at.ensures.moved.text in
@@ -24,18 +25,25 @@ returns-in_err-r c =
 
 pub add_letters-requires : goal.add_letters-requires
 add_letters-requires c =
-    let H = c.requires.1.1 in
-    let r = held_in_range H in
-    (r.few_letters, omega (arith, held_latest H _ c.requires.0, H.well_formed.few_states), held_small H c.in_ok-r.ensures.within.1)
+    let r = holds_small c.args.self.now.holds in
+    (r.letters, r.latest _ c.requires, omega (arith, c.in_ok-r.ensures.within.1, r.states))
 
-pub returns : goal.returns
-returns c = λ D H.
+pub returns-clause-taken : goal.returns-clause-taken
+returns-clause-taken c = λ D H.
     let e = rw c.in_ok-mask.ensures.ok_part at c.label_at.ensures.meaning in
     let t = ap (λ x. x.now) c.label_at.ensures.moved.text in
     let r = c.in_ok-r.ensures in
     record {
       description = _;
       step = edge_labelled H _ _ _ _ _ e _ t ∙ r.meaning _ (held_states H) _;
-      held = held_edge H _ _ _ _ _ e _ c.requires.0 r.within.1 _ c.add_letters.ensures;
+      held = held_edge H _ _ _ _ _ e _ c.requires r.within.1 _ c.add_letters.ensures;
       ahead = ahead_append (rw c.in_ok-mask.ensures.ok_part at c.label_at.ensures.moved) r.ahead;
+    }
+
+pub invariant_of-self : goal.invariant_of-self
+invariant_of-self c =
+    let e = rw c.in_ok-mask.ensures.ok_part at c.label_at.ensures.meaning in
+    record {
+      holds = ∥∥₁_map c.args.self.now.holds (λ h.
+          (_, held_edge h.1 _ _ _ _ _ e _ c.requires c.in_ok-r.ensures.within.1 _ c.add_letters.ensures));
     }

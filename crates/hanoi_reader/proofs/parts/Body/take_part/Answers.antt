@@ -7,8 +7,8 @@ use Rattle.hanoi_reader.specs.Taking.{goes}
 use Rattle.hanoi_reader.proofs.PartLaws.{ended_part, at_state, at_edge, part_taken, end_whole, end_followed, latest_none, latest_some}
 use Rattle.hanoi_reader.proofs.parts.Body.take_part.Goals as goal
 
-pub returns-then-scanner : goal.returns-then-scanner
-returns-then-scanner c = λ D H.
+pub returns-then-scanner-clause-taken : goal.returns-then-scanner-clause-taken
+returns-then-scanner-clause-taken c = λ D H.
     let t = c.skip.ensures in
     let m = c.if-token.ensures in
     let k = c.skip-then-token.ensures in (
@@ -18,8 +18,8 @@ returns-then-scanner c = λ D H.
       refl,
     )
 
-pub returns-then-token : goal.returns-then-token
-returns-then-token c = λ D H.
+pub returns-then-token-clause-taken : goal.returns-then-token-clause-taken
+returns-then-token-clause-taken c = λ D H.
     let t = c.skip.ensures in
     let m = c.if-token.ensures in
     let k = c.skip-then-token.ensures in (
@@ -29,19 +29,19 @@ returns-then-token c = λ D H.
       refl,
     )
 
-pub returns-then-token-2 : goal.returns-then-token-2
-returns-then-token-2 c =
+pub returns-then-token-2-clause-taken : goal.returns-then-token-2-clause-taken
+returns-then-token-2-clause-taken c =
     let e : c.and.result ≡ goes c.take_state.result = search rules in
     let t = c.skip.ensures in
     let m = c.if-token.ensures in
     let n = c.if-token-2.ensures in
     rw e (λ D H.
-    part_taken _ _ _ _ _ _ _ _ (ahead_append t.moved (ahead_append (ahead_moved m.moved) (ahead_moved n.moved)))
+    part_taken _ _ _ _ _ _ _ (ahead_append t.moved (ahead_append (ahead_moved m.moved) (ahead_moved n.moved)))
     _ _ (at_state D _ _ _ _ t.place t.moved _ _ m.meaning m.moved n.meaning n.moved)
-    (goes c.take_state.result) (c.take_state.ensures D H))
+    (goes c.take_state.result) (c.take_state.ensures.taken D H))
 
-pub returns-in_err-expect : goal.returns-in_err-expect
-returns-in_err-expect c =
+pub returns-in_err-expect-clause-taken : goal.returns-in_err-expect-clause-taken
+returns-in_err-expect-clause-taken c =
     let p = err_from_is_err_and c.from_residual.result c.from_residual.ensures.1 in
     let t = c.skip.ensures in
     let m = c.if-token.ensures in
@@ -52,8 +52,8 @@ returns-in_err-expect c =
       refl,
     ))
 
-pub returns-in_err-q : goal.returns-in_err-q
-returns-in_err-q c =
+pub returns-in_err-q-clause-taken : goal.returns-in_err-q-clause-taken
+returns-in_err-q-clause-taken c =
     let p = err_from_is_err_and c.from_residual-in_err-q.result c.from_residual-in_err-q.ensures.1 in
     let h = missing _ _ c.in_err-q.ensures.value in
     let t = c.skip.ensures in
@@ -65,15 +65,15 @@ returns-in_err-q c =
       refl,
     ))
 
-pub returns : goal.returns
-returns c =
+pub returns-clause-taken : goal.returns-clause-taken
+returns-clause-taken c =
     let e : c.and-2.result ≡ goes c.take_edge.result = search rules in
     let t = c.skip.ensures in
     let m = c.if-token.ensures in
     let n = c.if-token-2.ensures in
     let x = c.in_ok-expect.ensures in
     rw e (λ D H.
-    part_taken _ _ _ _ _ _ _ _ (ahead_append t.moved (ahead_append (ahead_moved m.moved) (ahead_append (ahead_moved n.moved) x.ahead)))
+    part_taken _ _ _ _ _ _ _ (ahead_append t.moved (ahead_append (ahead_moved m.moved) (ahead_append (ahead_moved n.moved) x.ahead)))
     _ _ (at_edge D _ _ _ _ t.place t.moved _ _ m.meaning m.moved n.meaning n.moved ∙ x.meaning _
     ∙ rw (← x.ahead.text) (latest_some _ _ _ D (H.latest ∙ c.in_ok-q.ensures.ok_part)))
-    (goes c.take_edge.result) (c.take_edge.ensures D H))
+    (goes c.take_edge.result) (c.take_edge.ensures.taken D H))
