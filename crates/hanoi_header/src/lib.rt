@@ -119,8 +119,7 @@ fn acceptance(scanner: &mut Scanner) -> Result<(), TextRefusal>
 
 // What the text begins with, and the number of states.
 fn states(scanner: &mut Scanner) -> Result<usize, TextRefusal>
-    requires { scanner.old.at ≡ 0 }
-    ensures meaning { (go : ℕ → ℕ → Step) → states_item scanner.old.text.now go ≡ onward result (λ n. go n scanner.new.at) }
+    ensures meaning { scanner.old.at ≡ 0 → (go : ℕ → ℕ → Step) → states_item scanner.old.text.now go ≡ onward result (λ n. go n scanner.new.at) }
     ensures within { IfOk result (λ n. (1 ≤ n) × (n ≤ 32)) }
     ensures ahead { IfOk result (λ _. Ahead 1 scanner.old scanner.new) }
 {
@@ -156,8 +155,7 @@ fn propositions(scanner: &mut Scanner) -> Result<usize, TextRefusal>
 // The whole header, from the front of the text.
 #[tactic(auto, unfolding(hanoi::specs::Reading::header))]
 pub fn read_header(scanner: &mut Scanner) -> Result<Header, TextRefusal>
-    requires { scanner.old.at ≡ 0 }
-    ensures meaning { start_step result scanner.new.at ≡ header scanner.old.text.now }
+    ensures meaning { scanner.old.at ≡ 0 → start_step result scanner.new.at ≡ header scanner.old.text.now }
     ensures within { IfOk result InRanges }
     ensures ahead { IfOk result (λ _. Ahead 1 scanner.old scanner.new) }
 {

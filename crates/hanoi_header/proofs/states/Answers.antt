@@ -4,9 +4,9 @@ use Rattle.hanoi_header.proofs.ItemLaws.{states_in}
 use Rattle.hanoi_header.proofs.states.Goals as goal
 
 pub returns-clause-meaning : goal.returns-clause-meaning
-returns-clause-meaning c = λ go.
+returns-clause-meaning c = λ zero go.
     let first = c.in_ok-expect.ensures in
     let second = c.in_ok-expect-2.ensures in
-    (rw (c.requires) at first.meaning) _
+    (rw zero at first.meaning) _
     ∙ (rw (first.ahead.text) at second.meaning) _
     ∙ (rw (second.ahead.text, first.ahead.text) at c.numbered.ensures.meaning) _ states_in go
