@@ -205,19 +205,19 @@ states_none w e = ap (λ (x : ℕ). those (bit x) max_states 0) e ∙ none max_s
     none (suc n) i = ap (λ (c : Bool). elim c [ true ↦ i ∷ those (bit 0) n (suc i) | false ↦ those (bit 0) n (suc i) ]) (bit_zero i) ∙ none n (suc i)
 
 -- Of the targets on a letter those that are left are the ones that are not listed: the others make no difference to the walk.
-module _ (work : List ℕ) (n letter p : ℕ) (sides : Sides) (targets rest : ℕ)
-    (left : (t : ℕ) → t < max_states → bit rest t ≡ (bit targets t && not (listed_with work (counters_to sides t) n t))) where
+module _ (work : List ℕ) (n letter accepting : ℕ) (lowered others : List ℕ) (p targets rest : ℕ)
+    (left : (t : ℕ) → t < max_states → bit rest t ≡ (bit targets t && not (listed_with work (side_of accepting lowered others t) n t))) where
   abbrev edge_to : ℕ → ℕ × Vertex
-  edge_to t = (letter, vertex_of t (counters_to sides t))
+  edge_to t = (letter, vertex_of t (side_of accepting lowered others t))
 
   apart : (t u : ℕ) → u < t → same_vertex (edge_to t).1 (edge_to u).1 ≡ false
   apart t u l = left_differs (edge_to t).1 (edge_to u).1 (λ e. absurd (omega arith))
 
   pub listed_left_out : (A B : Automaton) (b : ℕ) (work' : List ℕ) (r : Result ℕ Stop)
-      → Becomes work n work' r (λ S w. discover_all (lag_graph A B b) (below S) p w (edges_of letter sides rest))
-      → Becomes work n work' r (λ S w. discover_all (lag_graph A B b) (below S) p w (edges_of letter sides targets))
+      → Becomes work n work' r (λ S w. discover_all (lag_graph A B b) (below S) p w (map edge_to (those (bit rest) max_states 0)))
+      → Becomes work n work' r (λ S w. discover_all (lag_graph A B b) (below S) p w (map edge_to (those (bit targets) max_states 0)))
   listed_left_out A B b work' r made start ns S =
-      let unlisted = λ (t : ℕ). bit targets t && not (listed_with work (counters_to sides t) n t) in
+      let unlisted = λ (t : ℕ). bit targets t && not (listed_with work (side_of accepting lowered others t) n t) in
       subst (λ (w : Walk Vertex). Represents work' r start w)
       (ap (λ (ts : List ℕ). discover_all (lag_graph A B b) (below (slot_count (length start))) p (going ns) (map edge_to ts))
       (those_same (bit rest) unlisted max_states 0 (λ t l h. left t (omega arith)))
