@@ -10,11 +10,8 @@ ghost use Rattle.slots.specs.Slots.{slot_count, max_slots, same_list, all_zero};
 ghost use Rattle.slots.specs.Bytes.{with_slot};
 ghost use Rattle.classes.specs.Classes.{counters_at, class_of, eight_from, key_from, key_of, keys, empty_index, Chained, Classes, class_at, listed_in, index_after};
 
-mod edge;
-
 use automaton::MAX_STATES;
-pub use edge::Edge;
-use slots::{MAX_SLOTS, SLOT_SIZE, Vertex};
+use slots::{MAX_SLOTS, SLOT_SIZE, Slot};
 
 // The number of keys.
 const KEYS: usize = 4096;
@@ -27,13 +24,6 @@ pub struct Index {
     pub heads: [u16; KEYS],
     pub nexts: [u16; MAX_SLOTS],
     pub listed: [u32; MAX_SLOTS],
-}
-
-// What a slot is to hold: a vertex, and the edge by which it was found.
-#[derive(Clone, Copy)]
-pub struct Slot {
-    pub vertex: Vertex,
-    pub edge: Edge,
 }
 
 // The class of counters by number, 1 + the slot that leads it, and 0 where no slot has them; and their key.
@@ -183,7 +173,7 @@ impl Index {
         ensures index { self.new ≡ index_after self.old class.number slot.vertex.left class.key n }
         ensures classes { Classes work.new self.new (n + 1) }
     {
-        slots::write_slot(work, n, slot.vertex, slot.edge.letter, slot.edge.parent);
+        slots::write_slot(work, n, slot);
         self.join(n, slot.vertex.left as usize, class);
     }
 }

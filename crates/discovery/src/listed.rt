@@ -1,14 +1,12 @@
 // The vertices listed, and successors discovered: each is final, or takes the next slot, or finds none.
-#![tactic(auto)]
-
 ghost use Rattle.std.specs.Prelude.{◌≡◌, ◌&&◌, eqb};
 ghost use Rattle.slots.specs.Slots.{all_zero};
 ghost use Rattle.discovery.specs.Representation.{Ready};
 
 use crate::{Side, Sides, Stop};
-use classes::{Class, Edge, Index, Slot};
+use classes::{Class, Index};
 use relations::states_of;
-use slots::Vertex;
+use slots::{Edge, Slot, Vertex};
 
 // The vertices listed so far: the work buffer with so many slots taken, none of them by a final vertex, and its index.
 #[derive(Drop)]

@@ -6,6 +6,10 @@ ghost use Rattle.std.specs.Prelude.{◌≡◌, ◌++◌, ◌<◌, ◌≤◌, len
 ghost use Rattle.slots.specs.Slots.{slot_count, slot_size, slot_bytes};
 ghost use Rattle.slots.specs.Bytes.{with_slot, vertex_at, letter_at, parent_at, Falls, word_at};
 
+mod edge;
+
+pub use edge::Edge;
+
 // The bytes of a slot.
 pub const SLOT_SIZE: usize = 40;
 
@@ -24,6 +28,13 @@ pub struct Vertex {
     pub counters: [u8; 32],
 }
 
+// What a slot is to hold: a vertex, and the edge by which it was found.
+#[derive(Clone, Copy)]
+pub struct Slot {
+    pub vertex: Vertex,
+    pub edge: Edge,
+}
+
 // The number of slots of a work buffer of `len` bytes.
 pub fn slot_count(len: usize) -> usize
     ensures { result ≡ slot_count len }
@@ -33,24 +44,24 @@ pub fn slot_count(len: usize) -> usize
 
 // Writes a slot to the front of the part that is lent.
 #[tactic(auto, using(crate::proofs::SlotLayout::slot_written))]
-pub fn put_slot(part: &mut [u8], v: Vertex, letter: u8, parent: usize)
-    requires { (slot_size ≤ length part.old) × (parent < 65536) }
-    ensures { part.new ≡ slot_bytes v letter parent ++ drop slot_size part.old }
+pub fn put_slot(part: &mut [u8], slot: Slot)
+    requires { slot_size ≤ length part.old }
+    ensures { part.new ≡ slot_bytes slot.vertex slot.edge.letter slot.edge.parent ++ drop slot_size part.old }
 {
-    let [low, high] = (parent as u16).to_le_bytes();
-    part[0] = v.left;
-    part[1..33].copy_from_slice(&v.counters);
-    part[33..40].copy_from_slice(&[letter, low, high, 0, 0, 0, 0]);
+    let [low, high] = (slot.edge.parent as u16).to_le_bytes();
+    part[0] = slot.vertex.left;
+    part[1..33].copy_from_slice(&slot.vertex.counters);
+    part[33..40].copy_from_slice(&[slot.edge.letter, low, high, 0, 0, 0, 0]);
 }
 
 // Writes slot s of the work buffer, which is lent to the slot writer from that slot's offset on.
 #[tactic(auto, unfolding(crate::specs::Bytes::with_slot), using(crate::proofs::SlotLayout::part_back))]
-pub fn write_slot(work: &mut [u8], s: usize, v: Vertex, letter: u8, parent: usize)
-    requires { (s < slot_count (length work.old)) × (parent < 65536) }
-    ensures { work.new ≡ with_slot work.old s v letter parent }
+pub fn write_slot(work: &mut [u8], s: usize, slot: Slot)
+    requires { s < slot_count (length work.old) }
+    ensures { work.new ≡ with_slot work.old s slot.vertex slot.edge.letter slot.edge.parent }
 {
     let at = s * SLOT_SIZE;
-    put_slot(&mut work[at..], v, letter, parent);
+    put_slot(&mut work[at..], slot);
 }
 
 // The vertex in slot s.

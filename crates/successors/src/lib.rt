@@ -18,10 +18,9 @@ ghost use Rattle.successors.specs.Steps.{edges_on, StepKept};
 
 mod rules;
 
-use classes::Edge;
 use discovery::{Listed, Side, Sides, Stop};
 pub use rules::Rules;
-use slots::Vertex;
+use slots::{Edge, Vertex};
 use step::present::Present;
 
 // The vertex that a step starts from, with its right states that have a counter above 0.

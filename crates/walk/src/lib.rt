@@ -17,12 +17,12 @@ ghost use Rattle.walk.specs.FinalWord.{final_word_in};
 mod pair;
 
 use automaton::Valid;
-use classes::{Class, Edge, Index, Slot};
+use classes::{Class, Index};
 use discovery::{Listed, Stop};
 use graph::Bound;
 use kept::Kept;
 use pair::Pair;
-use slots::Vertex;
+use slots::{Edge, Slot, Vertex};
 use successors::{Rules, Source, Step};
 
 // Expands place p: all successors of its vertex, letters upwards, left targets upwards.
