@@ -10,7 +10,7 @@ ghost use Rattle.slots.specs.Slots.{max_slots};
 ghost use Rattle.classes.specs.Classes.{class_of};
 ghost use Rattle.graph.specs.Discovery.{below, discover_all};
 ghost use Rattle.graph.specs.LagGraph.{lag_graph};
-ghost use Rattle.step.specs.Steps.{PresentOf};
+ghost use Rattle.step.specs.Steps.{PresentOf, all_largest};
 ghost use Rattle.discovery.specs.Lists.{Makes, Grown};
 ghost use Rattle.successors.specs.Rules.{RulesOf};
 ghost use Rattle.successors.specs.Targets.{TargetsUnlisted, Known};
@@ -71,6 +71,21 @@ fn targets_unlisted(
     listed.unlisted(low_class, low) | listed.unlisted(other_class, other)
 }
 
+// For each right state the largest counter of its predecessors on a letter, in the vertex that a step starts from.
+fn largest_from(source: &Source, rules: &Rules, letter: usize) -> [u8; 32]
+    requires { (letter < rules.now.left.now.letters)
+        × PresentOf source.now.present.count source.now.present.places source.now.vertex.counters rules.now.right.now.states }
+    ensures { result ≡ all_largest rules.now.masks.now rules.now.right.now.states letter source.now.vertex.counters }
+{
+    step::largest_into(
+        rules.masks,
+        rules.right.states,
+        letter,
+        &source.present,
+        &source.vertex.counters,
+    )
+}
+
 // The successors of a vertex on the letter of a step: where the classes that are kept are known and all targets are listed with them, nothing is
 // done.
 pub fn expand_letter(
@@ -99,14 +114,7 @@ pub fn expand_letter(
     if targets_unlisted(listed, low_kept, other_kept, low, other) == 0 {
         return Ok(());
     }
-    let states = rules.right.states;
-    let largest = step::largest_into(
-        rules.masks,
-        states,
-        letter,
-        &source.present,
-        &source.vertex.counters,
-    );
+    let largest = largest_from(source, rules, letter);
     let lowered = step::counters_after(rules.tops, 1, largest);
     let others = step::counters_after(rules.tops, 0, largest);
     let sides = Sides {

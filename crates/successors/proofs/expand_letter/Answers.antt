@@ -29,13 +29,13 @@ returns-then-targets_unlisted-eq0-clause-represents c = λ A B b R.
 pub side_of-requires : goal.side_of-requires
 side_of-requires c =
     let a = c.args in
-    rw (c.counters_after-lowered.ensures, c.largest_into-largest.ensures)
+    rw (c.counters_after-lowered.ensures, c.largest_from-largest.ensures)
     (kept_low a.rules.now a.listed.now a.kept.now a.source.now.vertex a.step c.requires.4)
 
 pub side_of-requires-2 : goal.side_of-requires-2
 side_of-requires-2 c =
     let a = c.args in
-    rw (c.counters_after-others.ensures, c.largest_into-largest.ensures)
+    rw (c.counters_after-others.ensures, c.largest_from-largest.ensures)
     (kept_other a.rules.now a.listed.now a.kept.now a.source.now.vertex a.step c.requires.4)
 
 pub overflow_cast-kept : goal.overflow_cast-kept
@@ -64,8 +64,8 @@ returns-clause-represents c = λ A B b R.
     let d = c.discover_targets in
     letter_done u A B b R v.left a.step.edge.letter v.counters c.row-targets.result c.row-targets.ensures c.requires.0 c.requires.1
     c.requires.2.bytes low.result.counters.now other.result.counters.now
-    (low.ensures.counters ∙ c.counters_after-lowered.ensures ∙ ap (stepped_counters u.tops.now 1) c.largest_into-largest.ensures)
-    (other.ensures.counters ∙ c.counters_after-others.ensures ∙ ap (stepped_counters u.tops.now 0) c.largest_into-largest.ensures)
+    (low.ensures.counters ∙ c.counters_after-lowered.ensures ∙ ap (stepped_counters u.tops.now 1) c.largest_from-largest.ensures)
+    (other.ensures.counters ∙ c.counters_after-others.ensures ∙ ap (stepped_counters u.tops.now 0) c.largest_from-largest.ensures)
     a.step.edge.parent l.work.now l.count c.targets_unlisted-unlisted.result
     (sides_left l (record { accepting = u.accepting; low = low.result; other = other.result }) c.row-targets.result
     c.targets_unlisted-unlisted.result c.row-targets.type_inv c.targets_unlisted-unlisted.ensures low.ensures.class other.ensures.class)
@@ -77,5 +77,5 @@ returns-clause-step c =
     let low = c.side_of in
     let other = c.side_of-2 in
     kept_both a.rules.now a.listed.now a.kept.now a.source.now.vertex a.step _ _ c.requires.3
-    (rw (low.ensures.counters, c.counters_after-lowered.ensures, c.largest_into-largest.ensures) at low.ensures.known)
-    (rw (other.ensures.counters, c.counters_after-others.ensures, c.largest_into-largest.ensures) at other.ensures.known)
+    (rw (low.ensures.counters, c.counters_after-lowered.ensures, c.largest_from-largest.ensures) at low.ensures.known)
+    (rw (other.ensures.counters, c.counters_after-others.ensures, c.largest_from-largest.ensures) at other.ensures.known)
