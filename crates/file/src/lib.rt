@@ -22,8 +22,8 @@ pub struct Header {
     pub initial: usize,
 }
 
-// Makes the automaton that of a header alone; its transitions are none already.
-fn start(automaton: &mut Automaton, header: Header)
+// Makes the automaton that of a header alone, but for its transitions, which stay.
+pub fn start(automaton: &mut Automaton, header: Header)
     ensures { automaton.new ≡ started header automaton.old }
 {
     automaton.states = header.states;

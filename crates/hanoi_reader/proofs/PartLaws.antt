@@ -63,10 +63,12 @@ pub held_in_range : {D : Description} {ps : ℕ} {ds : List ℕ} {ls : Option �
 held_in_range H = (held_described H).in_range
 
 -- a number is below the number of states exactly when it is below the automaton's
-pub held_states : {D : Description} {ps : ℕ} {ds : List ℕ} {ls : Option ℕ} {A : Automaton} → Held D ps ds ls A → (v : ℕ) → ltb v D.states ≡ (leb 0 v && ltb v A.states)
+pub held_states : {D : Description} {ps : ℕ} {ds : List ℕ} {ls : Option ℕ} {A : Automaton} → Held D ps ds ls A
+    → (v : ℕ) → ltb v D.states ≡ (leb 0 v && ltb v A.states)
 held_states {A = A} H v = ap (ltb v) (sym (held_described H).describes.states) ∙ below_in A.states v
 
-pub held_small : {D : Description} {ps : ℕ} {ds : List ℕ} {ls : Option ℕ} {A : Automaton} → Held D ps ds ls A → {q : ℕ} → q < A.states → q < max_states
+pub held_small : {D : Description} {ps : ℕ} {ds : List ℕ} {ls : Option ℕ} {A : Automaton} → Held D ps ds ls A
+    → {q : ℕ} → q < A.states → q < max_states
 held_small H h = let r = held_in_range H in omega (arith, h, r.few_states)
 
 latest_within : (n k q : ℕ) (xs : List Part) → latest_state xs ≡ Some q → ((x : Part) → Memᴰ x xs → PartWithin n k x) → q < n
@@ -74,7 +76,8 @@ latest_within n k q [] e h = absurd (none-some q e)
 latest_within n k q (declared p b ∷ xs) e h = subst (λ (m : ℕ). m < n) (same_Some p q e) (h (declared p b) (Memᴰ.head refl))
 latest_within n k q (edge p L r ∷ xs) e h = subst (λ (m : ℕ). m < n) (same_Some p q e) (h (edge p L r) (Memᴰ.head refl)).0
 
-pub held_latest : {D : Description} {ps : ℕ} {ds : List ℕ} {ls : Option ℕ} {A : Automaton} → Held D ps ds ls A → (q : ℕ) → ls ≡ Some q → q < D.states
+pub held_latest : {D : Description} {ps : ℕ} {ds : List ℕ} {ls : Option ℕ} {A : Automaton} → Held D ps ds ls A
+    → (q : ℕ) → ls ≡ Some q → q < D.states
 held_latest {D} H q e = latest_within D.states D.propositions q D.parts (H.latest ∙ e) H.well_formed.within
 
 -- the same where a description is known to be held, and not which
@@ -130,7 +133,8 @@ swapped x q p =
     (λ t. ⊎_elim (or_right (eqb p q) x) (λ e. or_left (eqb p q) x (same_flipped q p e)) (or_cases x (eqb q p) t))
     (λ t. ⊎_elim (λ e. or_right x (eqb q p) (same_flipped p q e)) (or_left x (eqb q p)) (or_cases (eqb p q) x t))
 
-module _ {D : Description} {ps : ℕ} {ds : List ℕ} {ls : Option ℕ} {A : Automaton} (H : Held D ps ds ls A) (s : List ℕ) (q k : ℕ) (small : q < A.states) where
+module _ {D : Description} {ps : ℕ} {ds : List ℕ} {ls : Option ℕ} {A : Automaton} (H : Held D ps ds ls A) (s : List ℕ) (q k : ℕ)
+    (small : q < A.states) where
   pub declared_again : member ds q ≡ true → declaration s k q D ≡ over (refused 17)
   declared_again e = check_refused _ 17 _ (ap not (sym (H.declares q (held_small H small)) ∙ e))
 

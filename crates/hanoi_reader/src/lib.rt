@@ -24,10 +24,12 @@ fn start(automaton: &mut Automaton, header: Header)
     requires { (header.propositions ≤ 4) × (automaton.old.transitions ≡ replicate 2048 0) }
     ensures { automaton.new ≡ bare header.states (2 ^ header.propositions) header.start }
 {
-    automaton.states = header.states;
-    automaton.letters = 1 << header.propositions;
-    automaton.initial = header.start;
-    automaton.accepting = [0; 4];
+    let numbers = file::Header {
+        states: header.states,
+        letters: 1 << header.propositions,
+        initial: header.start,
+    };
+    file::start(automaton, numbers);
 }
 
 // Reads the body behind a header: what `read` promises of the whole text.

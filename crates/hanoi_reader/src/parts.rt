@@ -12,7 +12,7 @@ use label_reader::label_at;
 use tokens::Scanner;
 
 // A body as far as it is read: the automaton so far, which is lent, the number of propositions, the states that are declared, and the state that the next edge
-// belongs to. It holds the description of what is read: some description, since a fact does not say which.
+// belongs to. The fact says that it holds a description of what is read, and not which.
 #[derive(Drop)]
 pub struct Body<'a> {
     pub automaton: &'a mut Automaton,

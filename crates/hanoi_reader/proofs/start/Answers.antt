@@ -10,4 +10,4 @@ returns c =
     let k = c.args.header.propositions in
     let few = few_letters k c.requires.0 in
     let letters : 1 * 2 ^ k % 18446744073709551616 ≡ 2 ^ k = omega (arith, few.1) in
-    rw (c.requires.1, letters) refl
+    rw (c.start.ensures, c.requires.1, letters) refl
