@@ -1,2 +1,3 @@
 -- Classes of equal counters, and the index of the slots by them.
 pub mod Classes
+pub mod Keys

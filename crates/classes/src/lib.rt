@@ -10,7 +10,10 @@ ghost use Rattle.slots.specs.Slots.{slot_count, max_slots, same_list, all_zero};
 ghost use Rattle.slots.specs.Bytes.{with_slot};
 ghost use Rattle.classes.specs.Classes.{counters_at, class_of, eight_from, key_from, key_of, keys, empty_index, Chained, Classes, class_at, listed_in, index_after};
 
+mod keyed;
+
 use automaton::MAX_STATES;
+pub use keyed::Keyed;
 use slots::{MAX_SLOTS, SLOT_SIZE, Slot};
 
 // The number of keys.
@@ -111,13 +114,13 @@ impl Index {
 
     // The class of counters among the first n slots, by the chain of their key. The chain is followed by hand: its links are numbers in fixed
     // memory, and an iterator over them is no plainer.
-    pub fn class_of(&self, work: &[u8], n: usize, counters: [u8; 32], key: usize) -> usize
-        requires { (n ≤ slot_count (length work.now)) × (key ≡ key_of counters) × (key < keys) × Chained work.now self.now n }
-        ensures { result ≡ class_of work.now counters n }
+    pub fn class_of(&self, work: &[u8], n: usize, keyed: Keyed) -> usize
+        requires { (n ≤ slot_count (length work.now)) × Chained work.now self.now n }
+        ensures { result ≡ class_of work.now keyed.entry.counters.now n }
     {
-        let mut c = self.heads[key] as usize;
+        let mut c = self.heads[keyed.key] as usize;
         while c > 0 {
-            if same_counters(work, c - 1, counters) {
+            if same_counters(work, c - 1, *keyed.counters) {
                 return c;
             }
             c = self.nexts[c - 1] as usize;

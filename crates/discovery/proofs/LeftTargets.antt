@@ -129,7 +129,7 @@ module _ (n : ℕ) (sides : Sides) where
       (those_each (bit targets) (TargetLeft work n) max_states 0 (λ t l m h. (m, go t h (bit sides.accepting t) refl (S.unlisted t h))), those_rising (bit targets) max_states 0)
     where
       go : (t : ℕ) → bit targets t ≡ true → (b : Bool) → bit sides.accepting t ≡ b
-          → listed_with work (cond b sides.low.counters.now sides.other.counters.now) n t ≡ false
+          → listed_with work (cond b sides.low.keyed.counters.now sides.other.keyed.counters.now) n t ≡ false
           → SideReady work n t (cond b sides.low sides.other) (eqb n n)
       go t h true a u = record { known = record { where_sure = λ e. S.low_class t h a; where_some = λ s e. S.low_class t h a }; unlisted = u }
       go t h false a u = record { known = record { where_sure = λ e. S.other_class t h a; where_some = λ s e. S.other_class t h a }; unlisted = u }
@@ -147,8 +147,8 @@ module _ (n : ℕ) (sides : Sides) where
           let side = side_of sides.accepting sides.low sides.other k in (
             h.0,
             record {
-              known = known_kept work work' count m v G K side.class n (eqb count n) side.counters.now l h.1.known;
-              unlisted = unlisted_kept work work' count m v G K side.counters.now k (ne_eqb t k (λ e. omega arith)) h.1.unlisted;
+              known = known_kept work work' count m v G K side.class n (eqb count n) side.keyed.counters.now l h.1.known;
+              unlisted = unlisted_kept work work' count m v G K side.keyed.counters.now k (ne_eqb t k (λ e. omega arith)) h.1.unlisted;
             },
           )
 

@@ -1,4 +1,3 @@
 -- How the code's state stands for a walk.
-pub mod Keys
 pub mod Representation
 pub mod Lists

@@ -75,17 +75,17 @@ abbrev pub side_of : {A : Type 0} → ℕ → A → A → ℕ → A
 side_of accepting low other t = cond (bit accepting t) low other
 
 abbrev pub counters_to : Sides → ℕ → List ℕ
-counters_to sides t = side_of sides.accepting sides.low.counters.now sides.other.counters.now t
+counters_to sides t = side_of sides.accepting sides.low.keyed.counters.now sides.other.keyed.counters.now t
 
 pub record SideReady (work : List ℕ) (n t : ℕ) (side : Side) (sure : Bool) : Type 0 where
-  pub known : ClassKnown side.class sure (class_of work side.counters.now n)
-  pub unlisted : listed_with work side.counters.now n t ≡ false
+  pub known : ClassKnown side.class sure (class_of work side.keyed.counters.now n)
+  pub unlisted : listed_with work side.keyed.counters.now n t ≡ false
 
 -- the side of the left target t
 abbrev pub TargetReady : List ℕ → ℕ → Sides → Bool → ℕ → Type 0
 TargetReady work n sides sure t = SideReady work n t (side_of sides.accepting sides.low sides.other t) sure
 
 pub record SidesReady (work : List ℕ) (n targets : ℕ) (sides : Sides) : Type 0 where
-  pub low_class : (t : ℕ) → bit targets t ≡ true → bit sides.accepting t ≡ true → sides.low.class ≡ class_of work sides.low.counters.now n
-  pub other_class : (t : ℕ) → bit targets t ≡ true → bit sides.accepting t ≡ false → sides.other.class ≡ class_of work sides.other.counters.now n
+  pub low_class : (t : ℕ) → bit targets t ≡ true → bit sides.accepting t ≡ true → sides.low.class ≡ class_of work sides.low.keyed.counters.now n
+  pub other_class : (t : ℕ) → bit targets t ≡ true → bit sides.accepting t ≡ false → sides.other.class ≡ class_of work sides.other.keyed.counters.now n
   pub unlisted : (t : ℕ) → bit targets t ≡ true → listed_with work (counters_to sides t) n t ≡ false

@@ -4,7 +4,7 @@ ghost use Rattle.slots.specs.Slots.{all_zero};
 ghost use Rattle.discovery.specs.Representation.{Ready};
 
 use crate::{Side, Sides, Stop};
-use classes::{Class, Index};
+use classes::{Class, Index, Keyed};
 use relations::states_of;
 use slots::{Edge, Slot, Vertex};
 
@@ -32,7 +32,7 @@ impl<'a> Listed<'a> {
     ghost use Rattle.automaton.specs.Sets.{bit};
     ghost use Rattle.slots.specs.Slots.{max_slots};
     ghost use Rattle.slots.specs.Bytes.{vertex_at};
-    ghost use Rattle.classes.specs.Classes.{class_of, class_at, listed_in, key_of, keys};
+    ghost use Rattle.classes.specs.Classes.{class_of, class_at, listed_in};
     ghost use Rattle.graph.specs.Discovery.{below, discover as discovering, discover_all};
     ghost use Rattle.graph.specs.LagGraph.{lag_graph};
     ghost use Rattle.discovery.specs.Representation.{vertex_of, counters_to, Takes, ClassKnown, SideReady, TargetReady, SidesReady};
@@ -54,12 +54,11 @@ impl<'a> Listed<'a> {
         self.index.class_at(p)
     }
 
-    // The class of counters with this key.
-    pub fn class_of(&self, counters: &[u8; 32], key: usize) -> usize
-        requires { (key ≡ key_of counters.now) × (key < keys) }
-        ensures { result ≡ class_of self.now.work.now counters.now self.now.count }
+    // The class of counters with their key.
+    pub fn class_of(&self, keyed: Keyed) -> usize
+        ensures { result ≡ class_of self.now.work.now keyed.entry.counters.now self.now.count }
     {
-        self.index.class_of(self.work, self.count, *counters, key)
+        self.index.class_of(self.work, self.count, keyed)
     }
 
     // The targets that are not listed with the counters of the class.
@@ -73,13 +72,13 @@ impl<'a> Listed<'a> {
     // The class of the counters, which is looked up again unless it is known: one that is not 0 stays, and 0 is sure as long as no slot was
     // written.
     fn class_now(&self, side: Side, sure: bool) -> usize
-        requires { ClassKnown side.class sure (class_of self.now.work.now side.counters.now self.now.count) }
-        ensures { result ≡ class_of self.now.work.now side.entry.counters.now self.now.count }
+        requires { ClassKnown side.class sure (class_of self.now.work.now side.keyed.counters.now self.now.count) }
+        ensures { result ≡ class_of self.now.work.now side.entry.keyed.counters.now self.now.count }
     {
         if sure | (side.class != 0) {
             return side.class;
         }
-        self.class_of(side.counters, side.key)
+        self.class_of(side.keyed)
     }
 
     // One successor, found by an edge, that is not listed: it is final, takes the next slot, or finds none. The class of its side is its
@@ -87,13 +86,13 @@ impl<'a> Listed<'a> {
     fn discover(&mut self, edge: Edge, left: u8, side: Side, sure: bool) -> Result<(), Stop>
         requires { (left < max_states) × SideReady self.old.work.now self.old.count left side sure }
         ensures represents { (A B : Automaton) (b : ℕ) → Makes self.old self.new result
-            (λ S w. discovering (lag_graph A B b) (below S) edge.parent w (edge.letter, vertex_of left side.entry.counters.now)) }
+            (λ S w. discovering (lag_graph A B b) (below S) edge.parent w (edge.letter, vertex_of left side.entry.keyed.counters.now)) }
         ensures grows { Grown self.old self.new }
-        ensures takes { Takes self.old.count (vertex_of left side.entry.counters.now) self.new.work.now (answered result self.new.count) }
+        ensures takes { Takes self.old.count (vertex_of left side.entry.keyed.counters.now) self.new.work.now (answered result self.new.count) }
     {
         let place = self.count;
         let number = self.class_now(side, sure);
-        if is_final(number, side.counters) {
+        if is_final(number, side.keyed.counters) {
             return Err(Stop::Final {
                 place,
                 letter: edge.letter,
@@ -103,10 +102,10 @@ impl<'a> Listed<'a> {
         if place < slots::slot_count(self.work.len()) {
             let vertex = Vertex {
                 left,
-                counters: *side.counters,
+                counters: *side.keyed.counters,
             };
             let class = Class {
-                key: side.key,
+                key: side.keyed.key,
                 number,
             };
             self.index

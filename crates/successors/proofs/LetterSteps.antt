@@ -270,13 +270,13 @@ module _ (l : Listed) where
   -- classes of both sides
   module _ (sides : Sides) (tw x : ℕ) (small : tw < 2 ^ 32)
       (X : TargetsUnlisted index sides.low.class sides.other.class (bit_and tw sides.accepting) (bit_xor tw (bit_and tw sides.accepting)) x)
-      (lows : (t : ℕ) → bit (bit_and tw sides.accepting) t ≡ true → sides.low.class ≡ class_of work sides.low.counters.now n)
-      (highs : (t : ℕ) → bit (bit_xor tw (bit_and tw sides.accepting)) t ≡ true → sides.other.class ≡ class_of work sides.other.counters.now n) where
+      (lows : (t : ℕ) → bit (bit_and tw sides.accepting) t ≡ true → sides.low.class ≡ class_of work sides.low.keyed.counters.now n)
+      (highs : (t : ℕ) → bit (bit_xor tw (bit_and tw sides.accepting)) t ≡ true → sides.other.class ≡ class_of work sides.other.keyed.counters.now n) where
     pub sides_left : (t : ℕ) → bit x t ≡ (bit tw t && not (listed_with work (counters_to sides t) n t))
     sides_left =
-        left_over tw sides.accepting small sides.low.counters.now sides.other.counters.now sides.low.class sides.other.class x X
-        (λ t l h. class_listed work index n J sides.low.counters.now sides.low.class t (lows t h) l)
-        (λ t l h. class_listed work index n J sides.other.counters.now sides.other.class t (highs t h) l)
+        left_over tw sides.accepting small sides.low.keyed.counters.now sides.other.keyed.counters.now sides.low.class sides.other.class x X
+        (λ t l h. class_listed work index n J sides.low.keyed.counters.now sides.low.class t (lows t h) l)
+        (λ t l h. class_listed work index n J sides.other.keyed.counters.now sides.other.class t (highs t h) l)
 
     both : (P q : Bool) → (P && not q) ≡ true → (P ≡ true) × (q ≡ false)
     both true true e = absurd (true≢false (sym e))

@@ -18,6 +18,7 @@ ghost use Rattle.successors.specs.Steps.{edges_on, StepKept};
 
 mod rules;
 
+use classes::Keyed;
 use discovery::{Listed, Side, Sides, Stop};
 pub use rules::Rules;
 use slots::{Edge, Vertex};
@@ -40,21 +41,17 @@ pub struct Step {
 // The counters after a step with their key, and their class where there is a target; else the class that is kept.
 fn side_of<'a>(listed: &Listed, counters: &'a [u8; 32], kept: usize, targets: u32) -> Side<'a>
     requires { Known listed.now counters.now kept }
-    ensures counters { result.counters.now ≡ counters.now }
-    ensures known { Known listed.now result.counters.now result.class }
-    ensures class { (t : ℕ) → bit targets t ≡ true → result.class ≡ class_of listed.now.work.now result.counters.now listed.now.count }
+    ensures counters { result.keyed.counters.now ≡ counters.now }
+    ensures known { Known listed.now result.keyed.counters.now result.class }
+    ensures class { (t : ℕ) → bit targets t ≡ true → result.class ≡ class_of listed.now.work.now result.keyed.counters.now listed.now.count }
 {
-    let key = classes::key_of(counters);
+    let keyed = Keyed::new(counters);
     let class = if targets == 0 {
         kept
     } else {
-        listed.class_of(counters, key)
+        listed.class_of(keyed)
     };
-    Side {
-        counters,
-        key,
-        class,
-    }
+    Side { keyed, class }
 }
 
 // The targets of both sides that are not listed with the class of their side.

@@ -63,7 +63,7 @@ returns-clause-represents c = λ A B b R.
     let other = c.side_of-2 in
     let d = c.discover_targets in
     letter_done u A B b R v.left a.step.edge.letter v.counters c.row-targets.result c.row-targets.ensures c.requires.0 c.requires.1
-    c.requires.2.bytes low.result.counters.now other.result.counters.now
+    c.requires.2.bytes low.result.keyed.counters.now other.result.keyed.counters.now
     (low.ensures.counters ∙ c.counters_after-lowered.ensures ∙ ap (stepped_counters u.tops.now 1) c.largest_from-largest.ensures)
     (other.ensures.counters ∙ c.counters_after-others.ensures ∙ ap (stepped_counters u.tops.now 0) c.largest_from-largest.ensures)
     a.step.edge.parent l.work.now l.count c.targets_unlisted-unlisted.result

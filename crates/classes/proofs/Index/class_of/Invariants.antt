@@ -4,7 +4,7 @@ use Rattle.classes.proofs.Leaders.{OnChain}
 use Rattle.classes.proofs.Index.class_of.Given as goal
 
 abbrev pub invariant-loop-c : goal.invariant-loop-c
-invariant-loop-c l = OnChain l.work l.counters l.n l.key l.c
+invariant-loop-c l = OnChain l.work l.keyed.counters.now l.n l.keyed.key l.c
 
 abbrev pub decreases-loop-c : goal.decreases-loop-c
 decreases-loop-c l = l.c

@@ -11,9 +11,9 @@ use Rattle.discovery.proofs.RepresentedSlots.{discover_final, discover_full, dis
 use Rattle.discovery.proofs.listed.Listed.discover.Goals as goal
 use Rattle.discovery.proofs.listed.Listed.discover.Goals.{After-slot_count, Then-place-slot_count}
 
-alive : (c : After-slot_count) → all_zero c.args.side.counters.now ≡ false
+alive : (c : After-slot_count) → all_zero c.args.side.keyed.counters.now ≡ false
 alive c =
-    not_final c.args.self.now c.args.side.counters.now c.class_now-number.result c.class_now-number.ensures (sym c.is_final.ensures ∙ c.if-is_final.false)
+    not_final c.args.self.now c.args.side.keyed.counters.now c.class_now-number.result c.class_now-number.ensures (sym c.is_final.ensures ∙ c.if-is_final.false)
 
 free : (c : Then-place-slot_count) → c.args.self.now.count < slot_count (length c.args.self.now.work.now)
 free c = rw c.slot_count.ensures at c.if-place-slot_count.true
@@ -22,8 +22,8 @@ pub returns-then-is_final-clause-represents : goal.returns-then-is_final-clause-
 returns-then-is_final-clause-represents c =
     let a = c.args in
     let l = a.self.now in λ A B b start ns S.
-    discover_final A B b l.work.now l.count start ns S a.edge.parent a.edge.letter (vertex_of a.left a.side.counters.now) c.requires.1.unlisted
-    (final_zero a.side.counters.now c.class_now-number.result (sym c.is_final.ensures ∙ c.if-is_final.true))
+    discover_final A B b l.work.now l.count start ns S a.edge.parent a.edge.letter (vertex_of a.left a.side.keyed.counters.now) c.requires.1.unlisted
+    (final_zero a.side.keyed.counters.now c.class_now-number.result (sym c.is_final.ensures ∙ c.if-is_final.true))
 
 pub invariant_of-self : goal.invariant_of-self
 invariant_of-self c =
@@ -32,8 +32,8 @@ invariant_of-self c =
     let g = goal.at.invariant_of-self c in
     let w = c.append.ensures in record {
       ready = rw w.bytes
-          (ready_with_slot l.work.now l.count (vertex_of a.left a.side.counters.now) a.edge.letter a.edge.parent (free g.Then-place-slot_count)
-          a.side.keyed.long l.index.now _ l.ready c.requires.0 (alive g.After-slot_count) (rw w.bytes at w.classes));
+          (ready_with_slot l.work.now l.count (vertex_of a.left a.side.keyed.counters.now) a.edge.letter a.edge.parent (free g.Then-place-slot_count)
+          a.side.keyed.keyed.long l.index.now _ l.ready c.requires.0 (alive g.After-slot_count) (rw w.bytes at w.classes));
     }
 
 pub returns-then-place-slot_count-clause-represents : goal.returns-then-place-slot_count-clause-represents
@@ -42,8 +42,8 @@ returns-then-place-slot_count-clause-represents c =
     let l = a.self.now in
     let g = goal.at.returns-then-place-slot_count-clause-represents c in λ A B b start ns S.
     rw c.append.ensures.bytes
-    (discover_with_slot A B b l.work.now l.count start ns S a.edge.parent a.edge.letter (vertex_of a.left a.side.counters.now) c.requires.1.unlisted
-    (alive g.After-slot_count) (free g.Then-place-slot_count) a.side.keyed.long)
+    (discover_with_slot A B b l.work.now l.count start ns S a.edge.parent a.edge.letter (vertex_of a.left a.side.keyed.counters.now) c.requires.1.unlisted
+    (alive g.After-slot_count) (free g.Then-place-slot_count) a.side.keyed.keyed.long)
 
 pub returns-then-place-slot_count-clause-grows : goal.returns-then-place-slot_count-clause-grows
 returns-then-place-slot_count-clause-grows c =
@@ -53,8 +53,8 @@ returns-then-place-slot_count-clause-grows c =
       same_buffer = refl;
       same_index = refl;
       grows = rw c.append.ensures.bytes
-          (grows_with_slot l.work.now l.count (vertex_of a.left a.side.counters.now) a.edge.letter a.edge.parent (free g.Then-place-slot_count)
-          a.side.keyed.long);
+          (grows_with_slot l.work.now l.count (vertex_of a.left a.side.keyed.counters.now) a.edge.letter a.edge.parent (free g.Then-place-slot_count)
+          a.side.keyed.keyed.long);
     }
 
 pub returns-then-place-slot_count-clause-takes : goal.returns-then-place-slot_count-clause-takes
@@ -64,8 +64,8 @@ returns-then-place-slot_count-clause-takes c =
     let g = goal.at.returns-then-place-slot_count-clause-takes c in (
       refl,
       rw c.append.ensures.bytes
-          (taken_slot l.work.now l.count (vertex_of a.left a.side.counters.now) a.edge.letter a.edge.parent (free g.Then-place-slot_count)
-          a.side.keyed.long),
+          (taken_slot l.work.now l.count (vertex_of a.left a.side.keyed.counters.now) a.edge.letter a.edge.parent (free g.Then-place-slot_count)
+          a.side.keyed.keyed.long),
     )
 
 pub returns-clause-represents : goal.returns-clause-represents
@@ -73,5 +73,5 @@ returns-clause-represents c =
     let a = c.args in
     let l = a.self.now in
     let none = rw c.slot_count.ensures at c.if-place-slot_count.false in λ A B b start ns S.
-    discover_full A B b l.work.now l.count start ns S a.edge.parent a.edge.letter (vertex_of a.left a.side.counters.now) c.requires.1.unlisted
+    discover_full A B b l.work.now l.count start ns S a.edge.parent a.edge.letter (vertex_of a.left a.side.keyed.counters.now) c.requires.1.unlisted
     (alive (goal.at.returns-clause-represents c).After-slot_count) none
