@@ -53,8 +53,8 @@ fn read_records(file: &[u8], automaton: &mut Automaton) -> Result<(), FileRefusa
     }
 }
 
-// Reads a file into an automaton without transitions: refused with 1 to 5, or read. The automaton is then that of the header and of the records
-// before the end or the first fault; without a header it has nothing.
+// Reads a file into an automaton that is without transitions, so that its 2 KB are cleared once: refused with 1 to 5, or read. The automaton is then that
+// of the header and of the records before the end or the first fault; without a header it has nothing.
 pub fn read(file: &[u8], automaton: &mut Automaton) -> Result<(), FileRefusal>
     requires { automaton.old.transitions ≡ replicate 2048 0 }
     ensures answer { read_of result automaton.new ≡ read_file file.now }

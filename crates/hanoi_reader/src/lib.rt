@@ -46,7 +46,7 @@ fn read_body(
     Ok(())
 }
 
-// Reads a text into an automaton without transitions: refused, or read. The automaton is then that of the header and of the states and edges before the end or
+// Reads a text into an automaton that is without transitions, as `file::read` does: refused, or read. The automaton is then that of the header and of the states and edges before the end or
 // the first fault; without a header it has no states.
 fn read(text: &[u8], automaton: &mut Automaton) -> Result<(), TextRefusal>
     requires { automaton.old.transitions ≡ replicate 2048 0 }
