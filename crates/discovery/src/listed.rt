@@ -70,7 +70,7 @@ impl<'a> Listed<'a> {
     }
 
     // The class of the counters, which is looked up again unless it is known: one that is not 0 stays, and 0 is sure as long as no slot was
-    // written.
+    // written. A flag and no Option, since the side stays while that changes.
     fn class_now(&self, side: Side, sure: bool) -> usize
         requires { ClassKnown side.class sure (class_of self.now.work.now side.keyed.counters.now self.now.count) }
         ensures { result ≡ class_of self.now.work.now side.entry.keyed.counters.now self.now.count }

@@ -1,5 +1,6 @@
 // Vertices of the lag-checking graph, and the slots of the work buffer that have them. Only this crate knows a slot's layout.
-// The buffer and a slot's number are two parameters: a method of a struct with the buffer would ask the same bound of the number.
+// The buffer and a slot's number are two parameters: a method of a struct with the buffer would ask the same of the number, its bound
+// and that its parents fall.
 #![tactic(auto)]
 
 ghost use Rattle.std.specs.Prelude.{◌≡◌, ◌++◌, ◌<◌, ◌≤◌, length, drop};
