@@ -46,8 +46,8 @@ fn read_body(
     Ok(())
 }
 
-// Reads a text into an automaton that is without transitions, as `file::read` does: refused, or read. The automaton is then that of the header and of the states and edges before the end or
-// the first fault; without a header it has no states.
+// Reads a text into an automaton that is without transitions, so that its 2 KB are cleared once: refused, or read. The automaton is then that of the header
+// and of the states and edges before the end or the first fault; without a header it has no states.
 fn read(text: &[u8], automaton: &mut Automaton) -> Result<(), TextRefusal>
     requires { automaton.old.transitions ≡ replicate 2048 0 }
     ensures answer { ReadTo text.now result automaton.new }

@@ -1,36 +1,38 @@
 // The records past the header of an automaton file, as far as their bytes go, and the reader that goes from one to the next.
 #![tactic(auto)]
 
-ghost use Rattle.std.specs.Prelude.{◌≡◌, ◌<◌, ◌+◌, ◌-◌, ◌^◌, drop, length, List, ℕ};
+ghost use Rattle.std.specs.Prelude.{◌≡◌, drop};
 ghost use Rattle.format.specs.Records.{record_in};
 ghost use Rattle.records.specs.Readers.{place_after};
 
 use format::{FileRefusal, Record};
 
-// The bytes of a file that are left, and the position in it where they stand.
+// A file, the position in it where the next record stands, and the bytes that are left from there on.
 #[derive(Clone, Copy)]
 pub struct Reader<'a> {
-    pub rest: &'a [u8],
+    pub file: &'a [u8],
     pub at: usize,
-    pub ghost fits: { at + length rest.now < 2 ^ 64 },
+    pub rest: &'a [u8],
+    pub ghost left: { rest.now ≡ drop at file.now },
 }
 
 impl<'a> Reader<'a> {
     // The reader of a file from a position on.
     pub fn new(file: &'a [u8], at: usize) -> Reader<'a>
-        ensures { (result.rest.now ≡ drop at file.now) × (result.at ≡ at) }
+        ensures { (result.file ≡ file.entry) × (result.at ≡ at) }
     {
         Reader {
-            rest: file.get(at..).unwrap_or_default(),
+            file,
             at,
+            rest: file.get(at..).unwrap_or_default(),
         }
     }
 
-    // The next record, of each file s in which these bytes stand there; the reader is behind it afterwards, unless it is the end or a fault.
+    // The next record; the reader is behind it afterwards, unless it is the end or a fault.
     #[tactic(auto, unfolding(format::specs::Records::record_in))]
     pub fn next_record(&mut self) -> Result<Record, FileRefusal>
-        ensures record { (s : List ℕ) → self.old.rest.now ≡ drop self.old.at s → result ≡ record_in s self.old.at }
-        ensures rest { (s : List ℕ) → self.old.rest.now ≡ drop self.old.at s → self.new.rest.now ≡ drop self.new.at s }
+        ensures record { result ≡ record_in self.old.file.now self.old.at }
+        ensures file { self.new.file ≡ self.old.file }
         ensures at { self.new.at ≡ place_after result self.old.at }
     {
         let [first, second, fields @ ..] = self.rest else {
@@ -39,8 +41,9 @@ impl<'a> Reader<'a> {
         match (*first, *second, fields) {
             (0x41, 0x46, [q, rest @ ..]) => {
                 *self = Reader {
-                    rest,
+                    file: self.file,
                     at: self.at + 3,
+                    rest,
                 };
                 Ok(Record::Accepting {
                     state: *q as usize,
@@ -49,8 +52,9 @@ impl<'a> Reader<'a> {
             }
             (0x41, 0x54, [q, a, r, rest @ ..]) => {
                 *self = Reader {
-                    rest,
+                    file: self.file,
                     at: self.at + 5,
+                    rest,
                 };
                 Ok(Record::Transition {
                     from: *q as usize,

@@ -1,0 +1,2 @@
+-- What is left of a file behind a record.
+pub mod Rests
