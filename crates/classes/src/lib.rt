@@ -30,7 +30,7 @@ pub struct Index {
     pub listed: [u32; MAX_SLOTS],
 }
 
-// The class of counters by number, 1 + the slot that leads it, and 0 where no slot has them; and their key.
+// The class of counters by number, 1 + the slot that leads it, and 0 where no slot has them, as the index holds it; and their key.
 #[derive(Clone, Copy)]
 pub struct Class {
     pub key: usize,

@@ -8,9 +8,8 @@ mod sides;
 pub use listed::Listed;
 pub use sides::{Side, Sides};
 
-// Why a list ends: a final vertex, with its place, and the letter and the place of the parent by which it was found (those of its slot, were it the initial
-// vertex); or a vertex that found no
-// slot, with the number of slots.
+// Why a list ends: a final vertex, with its place, and the letter and the place of the parent by which it was found, numbers as in a slot, 255 and 65535 of
+// the initial vertex; or a vertex that found no slot, with the number of slots.
 #[derive(Clone, Copy, Debug, PartialEq, Eq)]
 pub enum Stop {
     Final {

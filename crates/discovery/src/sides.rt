@@ -1,7 +1,7 @@
 // Counters after a step, as the index knows them.
 use classes::Keyed;
 
-// Counters after a step with their key, and their class as far as it is known.
+// Counters after a step with their key, and their class as far as it is known: a number, 0 for none, as the index holds it.
 #[derive(Clone, Copy)]
 pub struct Side<'a> {
     pub keyed: Keyed<'a>,
