@@ -1,8 +1,8 @@
 // The header of a Hanoi text, item by item. The crate `hanoi` says what an item is. What the body is read by too is put inline, as in the scanner.
 #![tactic(auto)]
 
-ghost use Rattle.std.specs.Prelude.{◌≡◌, Bool, ◌&&◌, ℕ, ◌≤◌, ◌<◌, leb, ltb, length, IfOk};
-ghost use Rattle.tokens.specs.Scanners.{Ahead};
+ghost use Rattle.std.specs.Prelude.{◌≡◌, Bool, ◌&&◌, cond, ℕ, ◌≤◌, ◌<◌, leb, ltb, length, is_ok, IfOk};
+ghost use Rattle.tokens.specs.Scanners.{Ahead, Moved};
 ghost use Rattle.hanoi.specs.Numbers.{text_number};
 ghost use Rattle.hanoi.specs.Reading.{Step, expect, expect_number, check, states_item, start_item, propositions_item, names, acc_name_item, acceptance_item, header};
 ghost use Rattle.hanoi_header.specs.Items.{onward};
@@ -26,7 +26,7 @@ pub struct Header {
 #[tactic(auto, using(crate::proofs::ItemLaws::expect_passed, crate::proofs::ItemLaws::expect_missed))]
 pub fn expect(scanner: &mut Scanner, word: &[u8]) -> Result<(), TextRefusal>
     ensures meaning { (go : ℕ → Step) → expect word.now scanner.old.text.now scanner.old.at go ≡ onward result (λ _. go scanner.new.at) }
-    ensures ahead { IfOk result (λ _. Ahead (length word.now) scanner.old scanner.new) }
+    ensures moved { Moved (is_ok result) (length word.now) scanner.old scanner.new }
 {
     if scanner.token(word) {
         Ok(())
@@ -35,7 +35,7 @@ pub fn expect(scanner: &mut Scanner, word: &[u8]) -> Result<(), TextRefusal>
     }
 }
 
-// Passes the number that stands here, if it is in the range; the others get the refusal.
+// Passes the number that stands here, if it is in the range; the others get the refusal. A refusal leaves the scanner where it was.
 #[inline(always)]
 pub fn number_in(
     scanner: &mut Scanner,
@@ -46,12 +46,14 @@ pub fn number_in(
     ensures meaning { (ok : ℕ → Bool) → ((v : ℕ) → ok v ≡ (leb range.start v && ltb v range.end)) → (go : ℕ → ℕ → Step)
         → expect_number scanner.old.text.now scanner.old.at (λ v l. check (ok v) (text_number refusal) (go v l)) ≡ onward result (λ v. go v scanner.new.at) }
     ensures within { IfOk result (λ v. (range.start ≤ v) × (v < range.end)) }
-    ensures ahead { IfOk result (λ _. Ahead 1 scanner.old scanner.new) }
+    ensures moved { Moved (is_ok result) 1 scanner.old scanner.new }
 {
+    let at = scanner.at;
     let number = scanner.number().ok_or(TextRefusal::OutsideSubset)?;
     if range.contains(&number) {
         Ok(number)
     } else {
+        scanner.at = at;
         Err(refusal)
     }
 }
@@ -70,17 +72,24 @@ pub fn numbered(
         (λ j. expect_number scanner.old.text.now j (λ v l. check (ok v) (text_number refusal) (go v l)))
         ≡ onward result (λ v. go v scanner.new.at) }
     ensures within { IfOk result (λ v. (range.start ≤ v) × (v < range.end)) }
-    ensures ahead { IfOk result (λ _. Ahead 1 scanner.old scanner.new) }
+    ensures moved { Moved (is_ok result) 1 scanner.old scanner.new }
 {
+    let at = scanner.at;
     expect(scanner, word)?;
-    number_in(scanner, range, refusal)
+    match number_in(scanner, range, refusal) {
+        Ok(number) => Ok(number),
+        Err(refusal) => {
+            scanner.at = at;
+            Err(refusal)
+        }
+    }
 }
 
 // So many quoted names.
 #[tactic(auto, using(crate::proofs::ItemLaws::name_passed, crate::proofs::ItemLaws::no_names))]
 fn names(scanner: &mut Scanner, count: usize) -> Result<(), TextRefusal>
     ensures meaning { (go : ℕ → Step) → names count scanner.old.text.now scanner.old.at go ≡ onward result (λ _. go scanner.new.at) }
-    ensures ahead { IfOk result (λ _. Ahead 0 scanner.old scanner.new) }
+    ensures ahead { Ahead 0 scanner.old scanner.new }
 {
     for _ in 0..count {
         if !scanner.name() {
@@ -94,7 +103,7 @@ fn names(scanner: &mut Scanner, count: usize) -> Result<(), TextRefusal>
 #[tactic(auto, using(crate::proofs::ItemLaws::kind_missed))]
 fn acc_name(scanner: &mut Scanner) -> Result<(), TextRefusal>
     ensures meaning { (go : ℕ → Step) → acc_name_item scanner.old.text.now scanner.old.at go ≡ onward result (λ _. go scanner.new.at) }
-    ensures ahead { IfOk result (λ _. Ahead 0 scanner.old scanner.new) }
+    ensures ahead { Ahead 0 scanner.old scanner.new }
 {
     if scanner.token(b"acc-name:") {
         expect(scanner, b"Buchi")
@@ -106,7 +115,7 @@ fn acc_name(scanner: &mut Scanner) -> Result<(), TextRefusal>
 // `Acceptance: 1 Inf(0)`, and what ends the header.
 fn acceptance(scanner: &mut Scanner) -> Result<(), TextRefusal>
     ensures meaning { (go : ℕ → Step) → acceptance_item scanner.old.text.now scanner.old.at go ≡ onward result (λ _. go scanner.new.at) }
-    ensures ahead { IfOk result (λ _. Ahead 0 scanner.old scanner.new) }
+    ensures ahead { Ahead 0 scanner.old scanner.new }
 {
     expect(scanner, b"Acceptance:")?;
     expect(scanner, b"1")?;
@@ -121,7 +130,7 @@ fn acceptance(scanner: &mut Scanner) -> Result<(), TextRefusal>
 fn states(scanner: &mut Scanner) -> Result<usize, TextRefusal>
     ensures meaning { scanner.old.at ≡ 0 → (go : ℕ → ℕ → Step) → states_item scanner.old.text.now go ≡ onward result (λ n. go n scanner.new.at) }
     ensures within { IfOk result (λ n. (1 ≤ n) × (n ≤ 32)) }
-    ensures ahead { IfOk result (λ _. Ahead 1 scanner.old scanner.new) }
+    ensures ahead { Ahead (cond (is_ok result) 1 0) scanner.old scanner.new }
 {
     expect(scanner, b"HOA:")?;
     expect(scanner, b"v1")?;
@@ -138,7 +147,7 @@ fn start(scanner: &mut Scanner, states: usize) -> Result<usize, TextRefusal>
     requires { states ≤ 32 }
     ensures meaning { (go : ℕ → ℕ → Step) → start_item states scanner.old.text.now scanner.old.at go ≡ onward result (λ q. go q scanner.new.at) }
     ensures within { IfOk result (λ q. q < states) }
-    ensures ahead { IfOk result (λ _. Ahead 1 scanner.old scanner.new) }
+    ensures moved { Moved (is_ok result) 1 scanner.old scanner.new }
 {
     numbered(scanner, b"Start:", 0..states, TextRefusal::HeaderValues)
 }
@@ -147,17 +156,17 @@ fn start(scanner: &mut Scanner, states: usize) -> Result<usize, TextRefusal>
 fn propositions(scanner: &mut Scanner) -> Result<usize, TextRefusal>
     ensures meaning { (go : ℕ → ℕ → Step) → propositions_item scanner.old.text.now scanner.old.at go ≡ onward result (λ k. go k scanner.new.at) }
     ensures within { IfOk result (λ k. k ≤ 4) }
-    ensures ahead { IfOk result (λ _. Ahead 1 scanner.old scanner.new) }
+    ensures moved { Moved (is_ok result) 1 scanner.old scanner.new }
 {
     numbered(scanner, b"AP:", 0..5, TextRefusal::ManyPropositions)
 }
 
-// The whole header, from the front of the text.
+// The items of the header, one after another; a refusal may leave the scanner further on.
 #[tactic(auto, unfolding(hanoi::specs::Reading::header))]
-pub fn read_header(scanner: &mut Scanner) -> Result<Header, TextRefusal>
+fn items(scanner: &mut Scanner) -> Result<Header, TextRefusal>
     ensures meaning { scanner.old.at ≡ 0 → start_step result scanner.new.at ≡ header scanner.old.text.now }
     ensures within { IfOk result InRanges }
-    ensures ahead { IfOk result (λ _. Ahead 1 scanner.old scanner.new) }
+    ensures ahead { Ahead (cond (is_ok result) 1 0) scanner.old scanner.new }
 {
     let states = states(scanner)?;
     let start = start(scanner, states)?;
@@ -170,4 +179,20 @@ pub fn read_header(scanner: &mut Scanner) -> Result<Header, TextRefusal>
         start,
         propositions,
     })
+}
+
+// The whole header, from the front of the text. A refusal leaves the scanner where it was.
+pub fn read_header(scanner: &mut Scanner) -> Result<Header, TextRefusal>
+    ensures meaning { scanner.old.at ≡ 0 → start_step result scanner.new.at ≡ header scanner.old.text.now }
+    ensures within { IfOk result InRanges }
+    ensures moved { Moved (is_ok result) 1 scanner.old scanner.new }
+{
+    let at = scanner.at;
+    match items(scanner) {
+        Ok(header) => Ok(header),
+        Err(refusal) => {
+            scanner.at = at;
+            Err(refusal)
+        }
+    }
 }

@@ -1,5 +1,5 @@
 // The body of a Hanoi text: what stands at a place of it, and what it does to the automaton so far.
-ghost use Rattle.std.specs.Prelude.{◌≡◌, Bool, ℕ, ◌≤◌, ◌<◌, IfOk};
+ghost use Rattle.std.specs.Prelude.{◌≡◌, Bool, ℕ, ◌≤◌, ◌<◌};
 ghost use Rattle.tokens.specs.Scanners.{Ahead};
 ghost use Rattle.hanoi.specs.Reading.{Step, acceptance};
 ghost use Rattle.hanoi_header.specs.Items.{onward};
@@ -25,7 +25,7 @@ pub struct Body<'a> {
 // `{0}` behind a state's number, or nothing: whether the state accepts.
 fn mark_at(scanner: &mut Scanner) -> Result<bool, TextRefusal>
     ensures meaning { (go : Bool → ℕ → Step) → acceptance scanner.old.text.now scanner.old.at go ≡ onward result (λ m. go m scanner.new.at) }
-    ensures ahead { IfOk result (λ _. Ahead 0 scanner.old scanner.new) }
+    ensures ahead { Ahead 0 scanner.old scanner.new }
 {
     if !scanner.token(b"{") {
         return Ok(false);
@@ -48,7 +48,8 @@ fn add_letters(automaton: &mut Automaton, q: usize, mask: u16, r: usize)
 }
 
 impl<'a> Body<'a> {
-    ghost use Rattle.std.specs.Prelude.{◌≡◌, None, Some, replicate};
+    ghost use Rattle.std.specs.Prelude.{◌≡◌, None, Some, is_ok, replicate};
+    ghost use Rattle.tokens.specs.Scanners.{Ahead, Moved};
     ghost use Rattle.hanoi.specs.Descriptions.{Description};
     ghost use Rattle.hanoi.specs.Reading.{state_at, edge_at, part_at};
     ghost use Rattle.hanoi_reader.specs.Taking.{Holds, goes};
@@ -69,10 +70,11 @@ impl<'a> Body<'a> {
         }
     }
 
-    // Takes the state behind `State:`. A refusal changes nothing.
+    // Takes the state behind `State:`. A refusal leaves the body as it was.
     fn take_state(&mut self, scanner: &mut Scanner) -> Result<(), TextRefusal>
         ensures taken { (D : Description) → HeldBy D self.old
             → Taken scanner.old D (state_at scanner.old.text.now scanner.old.at D) self.old scanner.new self.new (goes result) }
+        ensures ahead { Ahead 0 scanner.old scanner.new }
         ensures same_automaton { self.new.automaton.ghost_name ≡ self.old.automaton.ghost_name }
     {
         let states = 0..self.automaton.states;
@@ -89,11 +91,12 @@ impl<'a> Body<'a> {
         Ok(())
     }
 
-    // Takes the edge of state q behind its `[`. A refusal changes nothing.
+    // Takes the edge of state q behind its `[`. A refusal leaves the body as it was.
     fn take_edge(&mut self, scanner: &mut Scanner, q: usize) -> Result<(), TextRefusal>
         requires { self.old.latest ≡ Some q }
         ensures taken { (D : Description) → HeldBy D self.old
             → Taken scanner.old D (edge_at scanner.old.text.now scanner.old.at q D) self.old scanner.new self.new (goes result) }
+        ensures ahead { Ahead 0 scanner.old scanner.new }
         ensures same_automaton { self.new.automaton.ghost_name ≡ self.old.automaton.ghost_name }
     {
         let mask = label_at(scanner, self.propositions).ok_or(TextRefusal::OutsideSubset)?;
@@ -107,11 +110,11 @@ impl<'a> Body<'a> {
         Ok(())
     }
 
-    // Takes what stands at the scanner, a state, or an edge of the latest state: whether the reading goes on. Behind the end there is nothing to take; a
-    // refusal and the end change nothing.
-    pub fn take_part(&mut self, scanner: &mut Scanner) -> Result<bool, TextRefusal>
+    // What `take_part` does, but that a refusal may leave the scanner further on.
+    fn take_here(&mut self, scanner: &mut Scanner) -> Result<bool, TextRefusal>
         ensures taken { (D : Description) → HeldBy D self.old
             → Taken scanner.old D (part_at scanner.old.text.now scanner.old.at D) self.old scanner.new self.new result }
+        ensures ahead { Ahead 0 scanner.old scanner.new }
         ensures same_automaton { self.new.automaton.ghost_name ≡ self.old.automaton.ghost_name }
     {
         // White space is passed once, and not by each of the three words.
@@ -129,5 +132,23 @@ impl<'a> Body<'a> {
         expect(scanner, b"[")?;
         let q = self.latest.ok_or(TextRefusal::OutsideSubset)?;
         self.take_edge(scanner, q).and(Ok(true))
+    }
+
+    // Takes what stands at the scanner, a state, or an edge of the latest state: whether the reading goes on. Behind the end there is nothing to take; a
+    // refusal and the end leave the body as it was, and a refusal the scanner too.
+    pub fn take_part(&mut self, scanner: &mut Scanner) -> Result<bool, TextRefusal>
+        ensures taken { (D : Description) → HeldBy D self.old
+            → Taken scanner.old D (part_at scanner.old.text.now scanner.old.at D) self.old scanner.new self.new result }
+        ensures moved { Moved (is_ok result) 0 scanner.old scanner.new }
+        ensures same_automaton { self.new.automaton.ghost_name ≡ self.old.automaton.ghost_name }
+    {
+        let at = scanner.at;
+        match self.take_here(scanner) {
+            Ok(goes_on) => Ok(goes_on),
+            Err(refusal) => {
+                scanner.at = at;
+                Err(refusal)
+            }
+        }
     }
 }

@@ -6,7 +6,7 @@ ghost use Rattle.std.specs.Prelude.{◌≡◌, ◌≤◌, cond, is_some};
 ghost use Rattle.std.specs.Option.{option_map};
 ghost use Rattle.labels.specs.Labels.{proposition_mask};
 ghost use Rattle.labels.specs.LabelReading.{atom_at, operand_at, conjunction, disjunction, closed, label_at};
-ghost use Rattle.tokens.specs.Scanners.{Ahead};
+ghost use Rattle.tokens.specs.Scanners.{Ahead, Moved};
 ghost use Rattle.label_reader.specs.Truths.{answer_of};
 
 use tokens::Scanner;
@@ -112,13 +112,18 @@ impl Labels {
     }
 }
 
-// Takes the label that stands here: its truth on letters 0 to 15.
+// Takes the label that stands here: its truth on letters 0 to 15. Where none does, the scanner stays where it was.
 #[tactic(auto, unfolding(labels::specs::LabelReading::label_at))]
 pub fn label_at(scanner: &mut Scanner, propositions: usize) -> Option<u16>
     requires { propositions ≤ 4 }
     ensures meaning { option_map (λ m. (m, scanner.new.at)) result ≡ answer_of (label_at scanner.old.text.now propositions scanner.old.at) }
-    ensures moved { Ahead (cond (is_some result) 1 0) scanner.old scanner.new }
+    ensures moved { Moved (is_some result) 1 scanner.old scanner.new }
 {
+    let at = scanner.at;
     let labels = Labels { propositions };
-    labels.or_at(scanner, 64)
+    let Some(mask) = labels.or_at(scanner, 64) else {
+        scanner.at = at;
+        return None;
+    };
+    Some(mask)
 }

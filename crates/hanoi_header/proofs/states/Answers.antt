@@ -8,5 +8,5 @@ returns-clause-meaning c = λ zero go.
     let first = c.in_ok-expect.ensures in
     let second = c.in_ok-expect-2.ensures in
     (rw zero at first.meaning) _
-    ∙ (rw (first.ahead.text) at second.meaning) _
-    ∙ (rw (second.ahead.text, first.ahead.text) at c.numbered.ensures.meaning) _ states_in go
+    ∙ (rw (first.moved.text) at second.meaning) _
+    ∙ (rw (second.moved.text, first.moved.text) at c.numbered.ensures.meaning) _ states_in go

@@ -20,10 +20,10 @@ returns-in_err-expect-2-clause-meaning c =
     let m = c.if-not-token.ensures in
     let l = c.in_ok-expect.ensures in
     rw (p.1, p.2)
-    (λ go. mark_begins _ _ go _ m.meaning ∙ rw (← m.moved.text) (l.meaning _ ∙ rw (← l.ahead.text) (c.in_err-expect-2.ensures.meaning _)))
+    (λ go. mark_begins _ _ go _ m.meaning ∙ rw (← m.moved.text) (l.meaning _ ∙ rw (← l.moved.text) (c.in_err-expect-2.ensures.meaning _)))
 
 pub returns-clause-meaning : goal.returns-clause-meaning
 returns-clause-meaning c =
     let m = c.if-not-token.ensures in
     let l = c.in_ok-expect.ensures in
-    λ go. mark_begins _ _ go _ m.meaning ∙ rw (← m.moved.text) (l.meaning _ ∙ rw (← l.ahead.text) (c.in_ok-expect-2.ensures.meaning _))
+    λ go. mark_begins _ _ go _ m.meaning ∙ rw (← m.moved.text) (l.meaning _ ∙ rw (← l.moved.text) (c.in_ok-expect-2.ensures.meaning _))

@@ -2,7 +2,7 @@
 use Rattle.std.proofs.Common.{refl, ap, ◌∙◌, arith}
 use Rattle.std.proofs.Math.Logic.{∥∥₁_map}
 use Rattle.std.proofs.lemmas.Result.{err_from_is_err_and}
-use Rattle.tokens.proofs.Scanners.{ahead_append}
+use Rattle.tokens.proofs.Scanners.{ahead_moved, ahead_append}
 use Rattle.hanoi_header.proofs.ItemLaws.{missing}
 use Rattle.hanoi_reader.proofs.PartLaws.{holds_small, held_states, edge_unlabelled, edge_labelled, held_edge}
 use Rattle.hanoi_reader.proofs.parts.Body.take_edge.Goals as goal
@@ -37,7 +37,7 @@ returns-clause-taken c = λ D H.
       description = _;
       step = edge_labelled H _ _ _ _ _ e _ t ∙ r.meaning _ (held_states H) _;
       held = held_edge H _ _ _ _ _ e _ c.requires r.within.1 _ c.add_letters.ensures;
-      ahead = ahead_append (rw c.in_ok-mask.ensures.ok_part at c.label_at.ensures.moved) r.ahead;
+      ahead = ahead_append (ahead_moved (rw c.in_ok-mask.ensures.ok_part at c.label_at.ensures.moved)) (ahead_moved r.moved);
     }
 
 pub invariant_of-self : goal.invariant_of-self

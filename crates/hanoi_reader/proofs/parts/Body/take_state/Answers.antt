@@ -2,7 +2,7 @@
 use Rattle.std.proofs.Common.{true, false, refl, sym, ap, ◌∙◌, arith}
 use Rattle.std.proofs.Math.Logic.{∥∥₁_map}
 use Rattle.std.proofs.lemmas.Result.{err_from_is_err_and}
-use Rattle.tokens.proofs.Scanners.{ahead_append}
+use Rattle.tokens.proofs.Scanners.{ahead_moved, ahead_append}
 use Rattle.hanoi.specs.Reading.{state_at}
 use Rattle.hanoi.specs.Meaning.{with_part}
 use Rattle.hanoi_reader.proofs.PartLaws.{holds_small, held_states, declared_again, undeclared, held_state}
@@ -34,7 +34,7 @@ returns-in_err-accepting-clause-taken c =
     let p = err_from_is_err_and c.from_residual-in_err-accepting.result c.from_residual-in_err-accepting.ensures.1 in
     let n = c.in_ok-q.ensures in
     rw (p.1, p.2) (λ D H. (
-      n.meaning _ (held_states H) _ ∙ undeclared H _ _ _ n.within.1 (sym c.is_member.ensures ∙ c.if-is_member.false) _ (ap (λ x. x.now) n.ahead.text)
+      n.meaning _ (held_states H) _ ∙ undeclared H _ _ _ n.within.1 (sym c.is_member.ensures ∙ c.if-is_member.false) _ (ap (λ x. x.now) n.moved.text)
           ∙ c.in_err-accepting.ensures.meaning _,
       H.automaton,
       refl,
@@ -53,10 +53,10 @@ returns-then-accepting-clause-taken c = λ D H.
     let m = c.in_ok-accepting.ensures in
     record {
       description = _;
-      step = n.meaning _ (held_states H) _ ∙ undeclared H _ _ _ n.within.1 (sym c.is_member.ensures ∙ c.if-is_member.false) _ (ap (λ x. x.now) n.ahead.text)
+      step = n.meaning _ (held_states H) _ ∙ undeclared H _ _ _ n.within.1 (sym c.is_member.ensures ∙ c.if-is_member.false) _ (ap (λ x. x.now) n.moved.text)
           ∙ m.meaning _;
       held = held_state H c.args.scanner.now.text.now _ 0 n.within.1 _ _ (rw c.if-accepting.true c.add_accepting.ensures) _ refl _ c.add_member.ensures _ refl;
-      ahead = ahead_append n.ahead m.ahead;
+      ahead = ahead_append (ahead_moved n.moved) m.ahead;
     }
 
 pub returns-else-accepting-clause-taken : goal.returns-else-accepting-clause-taken
@@ -66,10 +66,10 @@ returns-else-accepting-clause-taken c = λ D H.
     let m = c.in_ok-accepting.ensures in
     record {
       description = _;
-      step = n.meaning _ (held_states H) _ ∙ undeclared H _ _ _ n.within.1 (sym c.is_member.ensures ∙ c.if-is_member.false) _ (ap (λ x. x.now) n.ahead.text)
+      step = n.meaning _ (held_states H) _ ∙ undeclared H _ _ _ n.within.1 (sym c.is_member.ensures ∙ c.if-is_member.false) _ (ap (λ x. x.now) n.moved.text)
           ∙ m.meaning _;
       held = held_state H c.args.scanner.now.text.now _ 0 n.within.1 _ _ (rw c.if-accepting.false refl) _ refl _ c.add_member.ensures _ refl;
-      ahead = ahead_append n.ahead m.ahead;
+      ahead = ahead_append (ahead_moved n.moved) m.ahead;
     }
 
 pub invariant_of-self : goal.invariant_of-self

@@ -1,11 +1,11 @@
--- `Body::take_part` meets its contract, by the token that stands at the place. Assumes nothing.
+-- `Body::take_here` meets its contract, by the token that stands at the place. Assumes nothing.
 use Rattle.std.proofs.Common.{◌≡◌, refl, sym, ap, ◌∙◌, length, rules}
 use Rattle.std.proofs.lemmas.Result.{err_from_is_err_and}
 use Rattle.tokens.proofs.Scanners.{ahead_moved, ahead_append}
 use Rattle.hanoi_header.proofs.ItemLaws.{missing}
 use Rattle.hanoi_reader.specs.Taking.{goes}
 use Rattle.hanoi_reader.proofs.PartLaws.{ended_part, at_state, at_edge, part_taken, end_whole, end_followed, latest_none, latest_some}
-use Rattle.hanoi_reader.proofs.parts.Body.take_part.Goals as goal
+use Rattle.hanoi_reader.proofs.parts.Body.take_here.Goals as goal
 
 pub returns-then-scanner-clause-taken : goal.returns-then-scanner-clause-taken
 returns-then-scanner-clause-taken c = λ D H.
@@ -73,7 +73,7 @@ returns-clause-taken c =
     let n = c.if-token-2.ensures in
     let x = c.in_ok-expect.ensures in
     rw e (λ D H.
-    part_taken _ _ _ _ _ _ _ (ahead_append t.moved (ahead_append (ahead_moved m.moved) (ahead_append (ahead_moved n.moved) x.ahead)))
+    part_taken _ _ _ _ _ _ _ (ahead_append t.moved (ahead_append (ahead_moved m.moved) (ahead_append (ahead_moved n.moved) (ahead_moved x.moved))))
     _ _ (at_edge D _ _ _ _ t.place t.moved _ _ m.meaning m.moved n.meaning n.moved ∙ x.meaning _
-    ∙ rw (← x.ahead.text) (latest_some _ _ _ D (H.latest ∙ c.in_ok-q.ensures.ok_part)))
+    ∙ rw (← x.moved.text) (latest_some _ _ _ D (H.latest ∙ c.in_ok-q.ensures.ok_part)))
     (goes c.take_edge.result) (c.take_edge.ensures.taken D H))
