@@ -13,8 +13,6 @@ use Rattle.std.proofs.lemmas.Option.{none-some, same_Some}
 use Rattle.std.proofs.lemmas.Bool.Decides.{nat_tests}
 use Rattle.tokens.specs.Tokens.{stands, behind, Number, none, number, number_at, name_bytes}
 use Rattle.tokens.specs.Places.{token_at, name_from, name_at, capped}
-use Rattle.hanoi.specs.declared.TextRefusal.{TextRefusal}
-use Rattle.hanoi.specs.declared.TextRefusal.TheVariants.{OutsideSubset}
 use Rattle.hanoi.specs.Words.{acc_name, Buchi, quote}
 use Rattle.hanoi.specs.Reading.{Step, over, refused, outside, expect, expect_number, check, names, acc_name_item}
 
@@ -58,7 +56,7 @@ module _ (s : List ℕ) (i j : ℕ) (b : Bool) (e : then_some b j ≡ token_at a
   kind_missed a = kind_answered ∙ ap (λ c. option_map_or (λ k. expect Buchi s k go) (then_some c j) (go i)) a
 
 -- what an answer that is missing comes to
-pub missing : {A : Type 0} (o : Option A) (f : TextRefusal) → Err f ≡ ok_or o OutsideSubset → (o ≡ None) × (f ≡ OutsideSubset)
+pub missing : {A F : Type 0} {d : F} (o : Option A) (f : F) → Err f ≡ ok_or o d → (o ≡ None) × (f ≡ d)
 missing None f e = (refl, cc)
 missing (Some x) f e = absurd (cc)
 

@@ -5,10 +5,11 @@ ghost use Rattle.std.specs.Prelude.{◌≡◌, Bool, ◌&&◌, cond, ℕ, ◌≤
 ghost use Rattle.tokens.specs.Scanners.{Ahead, Moved};
 ghost use Rattle.hanoi.specs.Numbers.{text_number};
 ghost use Rattle.hanoi.specs.Reading.{Step, expect, expect_number, check, states_item, start_item, propositions_item, names, acc_name_item, acceptance_item, header};
-ghost use Rattle.hanoi_header.specs.Items.{onward};
+ghost use Rattle.hanoi_header.specs.Items.{onward, onward_by};
 ghost use Rattle.hanoi_header.specs.Headers.{start_step, InRanges};
 
 use automaton::MAX_STATES;
+use format::Numbered;
 use hanoi::TextRefusal;
 use std::ops::Range;
 use tokens::Scanner;
@@ -19,6 +20,24 @@ pub struct Header {
     pub states: usize,
     pub start: usize,
     pub propositions: usize,
+}
+
+// What refuses a text: a refusal, or any number in its place. One of them says that the text lies outside the subset.
+pub trait Refusing: Numbered + Drop {
+    fn outside_subset() -> Self
+        ensures { Self.number result ≡ 17 };
+}
+
+impl Refusing for TextRefusal {
+    fn outside_subset() -> TextRefusal {
+        TextRefusal::OutsideSubset
+    }
+}
+
+impl Refusing for usize {
+    fn outside_subset() -> usize {
+        TextRefusal::OutsideSubset as usize
+    }
 }
 
 // Passes the token that the word spells.
@@ -37,19 +56,19 @@ pub fn expect(scanner: &mut Scanner, word: &[u8]) -> Result<(), TextRefusal>
 
 // Passes the number that stands here, if it is in the range; the others get the refusal. A refusal leaves the scanner where it was.
 #[inline(always)]
-pub fn number_in(
+pub fn number_in<R: Refusing>(
     scanner: &mut Scanner,
     range: Range<usize>,
-    refusal: TextRefusal,
-) -> Result<usize, TextRefusal>
+    refusal: R,
+) -> Result<usize, R>
     requires { range.end ≤ 1000 }
     ensures meaning { (ok : ℕ → Bool) → ((v : ℕ) → ok v ≡ (leb range.start v && ltb v range.end)) → (go : ℕ → ℕ → Step)
-        → expect_number scanner.old.text.now scanner.old.at (λ v l. check (ok v) (text_number refusal) (go v l)) ≡ onward result (λ v. go v scanner.new.at) }
+        → expect_number scanner.old.text.now scanner.old.at (λ v l. check (ok v) (R.number refusal) (go v l)) ≡ onward_by R.number result (λ v. go v scanner.new.at) }
     ensures within { IfOk result (λ v. (range.start ≤ v) × (v < range.end)) }
     ensures moved { Moved (is_ok result) 1 scanner.old scanner.new }
 {
     let at = scanner.at;
-    let number = scanner.number().ok_or(TextRefusal::OutsideSubset)?;
+    let number = scanner.number().ok_or(R::outside_subset())?;
     if range.contains(&number) {
         Ok(number)
     } else {
