@@ -1,17 +1,37 @@
--- Loops over ranges that test, sum and look for members that the header lacks: the rest from i on gives the answer of the whole. Last, that
+-- The next member of a range, found byte by byte.
+-- Then loops over ranges that test, sum and look for members that the header lacks: the rest from i on gives the answer of the whole. Last, that
 -- between the header's states a transition is its bit. Assumes nothing.
 use mathlib.Core.Path.{◌≡◌, refl, ap, ◌∙◌}
 use mathlib.Core.Bool.{Bool, true, false, ◌&&◌, ◌||◌, not}
 use mathlib.Core.List.{List, ◌∷◌}
-use Prim.Native.Nat.{ℕ, zero, suc, ◌+◌, ◌-◌, ◌≤◌, ◌<◌}
+use Prim.Native.Nat.{ℕ, zero, suc, ◌+◌, ◌-◌, ◌*◌, ◌≤◌, ◌<◌}
 use native.Mathlib.Omega.{arith}
 use lib.Dec.{ltb}
 use borrow.Author.Tests.{lt-ltb, le-ltb}
 use Rattle.automaton.specs.declared.Automaton.{Automaton}
-use Rattle.automaton.specs.Ranges.{some, those, total}
+use Rattle.automaton.specs.Ranges.{some, next_from, those, total}
+use Rattle.automaton.specs.Sets.{bit, least_member}
 use Rattle.automaton.specs.Automata.{transition}
 use Rattle.automaton.specs.Members.{transition_in}
-use Rattle.automaton.proofs.Ranges.{same_along}
+use Rattle.automaton.proofs.Ranges.{same_along, next_skip, next_is}
+use Rattle.automaton.proofs.LeastMembers.{least_holds, least_before}
+
+-- The next member is found byte by byte: v is the byte of the numbers from b * 8 on, and n its least member.
+
+module _ (f : ℕ → Bool) (b v n : ℕ) (least : n ≡ least_member v) (in-byte : (k : ℕ) → k < 8 → f (b * 8 + k) ≡ bit v k) where
+  none_before : (j : ℕ) → b * 8 ≤ j → j < b * 8 + 8 → j < b * 8 + n → f j ≡ false
+  none_before j h u l = go (j - b * 8) (omega arith)
+    where
+      go : (k : ℕ) → j ≡ b * 8 + k → f j ≡ false
+      go k e = ap f e ∙ in-byte k (omega arith) ∙ least_before v k (omega arith)
+
+  pub next_in_byte : (m : ℕ) → b * 8 + 8 ≤ m → n < 8 → next_from f (m - b * 8) (b * 8) ≡ b * 8 + n
+  next_in_byte m h l =
+      next_is f m (b * 8) (b * 8 + n) (omega arith) (omega arith) (in-byte n l ∙ rw least (least_holds v (rw least at l)))
+      (λ j p q. none_before j p (omega arith) q)
+
+  pub next_past_byte : (m j : ℕ) → j ≡ b * 8 + 8 → j ≤ m → 8 ≤ n → next_from f (m - b * 8) (b * 8) ≡ next_from f (m - j) j
+  next_past_byte m j d h l = next_skip f m (b * 8) j (omega arith) h (λ k p q. none_before k p (omega arith) (omega arith))
 
 -- Loops over a range of m numbers: at i the numbers below i are done, and the rest starts at i.
 

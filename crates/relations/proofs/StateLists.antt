@@ -1,16 +1,15 @@
--- The states of a set, one after the other: the lowest is the number of trailing zeros of its word, and the word and one less have in common
--- the states above it; and the states below n. Assumes nothing.
+-- The states of a set, one after the other: the lowest is found byte by byte, and the word and one less have in common the states above it;
+-- and the states below n. Assumes nothing.
 use mathlib.Core.Path.{◌≡◌, refl, sym, ap, ap₂, subst, ◌∙◌}
 use mathlib.Core.Bool.{Bool, true, false, ◌&&◌}
 use mathlib.Core.List.{List, [], ◌∷◌}
-use Prim.Native.Nat.{ℕ, zero, suc, ◌+◌, ◌/◌, ◌%◌, ◌^◌, ◌-◌, ◌≤◌, ◌<◌}
+use Prim.Native.Nat.{ℕ, zero, suc, ◌+◌, ◌*◌, ◌/◌, ◌%◌, ◌^◌, ◌-◌, ◌≤◌, ◌<◌}
 use native.Mathlib.Nat.{lt_of_not-le, mod-lt, pow-le-pow_right, div-eq_of_lt}
 use native.Mathlib.Omega.{arith}
 use lib.Bits.{bit_and}
-use lib.Count.{count_trailing_zeros}
 use lib.Dec.{eqb}
 use lib.ListN.{length}
-use lib.Pow.{pow_pos}
+use lib.Pow.{pow_pos, shr-shr}
 use borrow.Author.Tests.{eqb-true, eqb-false}
 use Rattle.std.proofs.Common.{Some}
 use Rattle.std.specs.Iterator.{MakesProgress, item_count}
@@ -18,12 +17,11 @@ use Rattle.std.specs.Prelude.{All}
 use Rattle.std.proofs.lemmas.List.Elements.{All-nil, All-cons}
 use Rattle.std.proofs.lemmas.Nat.{div-add-mod'}
 use Rattle.automaton.specs.Ranges.{next_from, those}
-use Rattle.automaton.specs.Sets.{bit}
+use Rattle.automaton.specs.Sets.{bit, least_member}
 use Rattle.automaton.proofs.Booleans.{clash}
 use Rattle.automaton.proofs.Bits.{bit_of_and, bit_zero, bit_half, bit_first}
-use Rattle.automaton.proofs.LeastMembers.{trailing_first}
 use Rattle.automaton.proofs.Lists.{those_next, those_here}
-use Rattle.automaton.proofs.Members.{those_same}
+use Rattle.automaton.proofs.Members.{next_in_byte, next_past_byte, those_same}
 use Rattle.automaton.proofs.Ranges.{next_holds, next_before, next_none}
 use Rattle.relations.proofs.Rows.{even_word, bits_none, bit_low}
 
@@ -77,6 +75,35 @@ those_below f n (suc m) i h = go (f i) (those_below f n m (suc i) (omega arith))
 
 pub all_below : (f : ℕ → Bool) (n : ℕ) → All (λ (q : ℕ). q < n) (those f n 0)
 all_below f n = those_below f n n 0 (omega arith)
+
+-- The least state, byte by byte.
+
+-- byte b of a word has the states from b * 8 on
+bit_in_byte : (w b k : ℕ) → k < 8 → bit w (b * 8 + k) ≡ bit (w / 2 ^ (b * 8) % 256) k
+bit_in_byte w b k h =
+    let x = w / 2 ^ (b * 8) in
+    let e : x ≡ x / 256 * 2 ^ 8 + x % 256 = omega arith in
+    ap (λ (y : ℕ). eqb (y % 2) 1) (sym (shr-shr w (b * 8) k)) ∙ ap (λ (y : ℕ). bit y k) e ∙ bit_low 8 (x / 256) (x % 256) k h
+
+module _ (w b m : ℕ) (inside : b < 4) (least : m ≡ least_member (w / 2 ^ (b * 8) % 256)) where
+  pub least_in_byte : m < 8 → next_from (bit w) (32 - b * 8) (b * 8) ≡ b * 8 + m
+  least_in_byte l = next_in_byte (bit w) b (w / 2 ^ (b * 8) % 256) m least (bit_in_byte w b) 32 (omega arith) l
+
+  pub least_past_byte : 8 ≤ m → next_from (bit w) (32 - b * 8) (b * 8) ≡ next_from (bit w) (32 - (b + 1) * 8) ((b + 1) * 8)
+  least_past_byte l =
+      next_past_byte (bit w) b (w / 2 ^ (b * 8) % 256) m least (bit_in_byte w b) 32 ((b + 1) * 8) (omega arith) (omega arith) l
+
+pub least_end : (w b : ℕ) → b ≤ 4 → 4 ≤ b → next_from (bit w) (32 - b * 8) (b * 8) ≡ 32
+least_end w b l h = next_none (bit w) 32 (b * 8) (omega arith) (λ k p q. absurd (omega arith))
+
+-- a word that is not 0 has a least state
+pub least_there : (w q : ℕ) → w < 2 ^ 32 → (w ≡ 0 → ⊥) → q ≡ next_from (bit w) 32 0 → (q < 32) × (bit w q ≡ true)
+least_there w q h n e = (below, ap (bit w) e ∙ next_holds (bit w) 32 0 (subst (λ (x : ℕ). x < 32) e below))
+  where
+    below : q < 32
+    below =
+        lt_of_not-le (λ m. n (bits_none 32 w h (λ i l. next_before (bit w) 32 0 i (omega arith)
+        (subst (λ (x : ℕ). i < x) e (omega arith)))))
 
 -- Words.
 
@@ -141,25 +168,14 @@ module _ (w q : ℕ) (here : bit w q ≡ true) (none : (k : ℕ) → k < q → b
       and_self false = refl
 
 -- the next state
-pub next_of_word : (w : ℕ) → w < 2 ^ 32 → (w ≡ 0 → ⊥)
-    → those (bit w) 32 0 ≡ count_trailing_zeros 32 w ∷ those (bit (bit_and w (w - 1))) 32 0
-next_of_word w h z =
-    those_first (bit w) (bit (bit_and w (w - 1))) 32 q below e here (without_below w q here before) (without_above w q here before)
+pub next_of_word : (w q : ℕ) → w < 2 ^ 32 → (w ≡ 0 → ⊥) → q ≡ next_from (bit w) 32 0
+    → those (bit w) 32 0 ≡ q ∷ those (bit (bit_and w (w - 1))) 32 0
+next_of_word w q h z e =
+    let l = least_there w q h z e in
+    those_first (bit w) (bit (bit_and w (w - 1))) 32 q l.0 e l.1 (without_below w q l.1 before) (without_above w q l.1 before)
   where
-    q : ℕ
-    q = count_trailing_zeros 32 w
-
-    e : q ≡ next_from (bit w) (32 - 0) 0
-    e = trailing_first 32 w
-
     before : (k : ℕ) → k < q → bit w k ≡ false
     before k l = next_before (bit w) 32 0 k (omega arith) (subst (λ (x : ℕ). k < x) e l)
-
-    below : q < 32
-    below = lt_of_not-le (λ m. z (bits_none 32 w h (λ i l. before i (omega arith))))
-
-    here : bit w q ≡ true
-    here = ap (bit w) e ∙ next_holds (bit w) 32 0 (subst (λ (x : ℕ). x < 32) e below)
 
 pub none_of_word : (w : ℕ) → w ≡ 0 → those (bit w) 32 0 ≡ []
 none_of_word w e = those_none (bit w) 32 0 (λ k _. ap (λ (x : ℕ). bit x k) e ∙ bit_zero k)

@@ -1,11 +1,25 @@
 // The states of a set, one after the other.
 ghost use Rattle.std.specs.Prelude.{◌≡◌, ◌<◌, ◌≤◌, All};
 ghost use Rattle.std.specs.Iterator.{YieldsFirst, item_count};
-ghost use Rattle.automaton.specs.Ranges.{those};
+ghost use Rattle.automaton.specs.Ranges.{next_from, those};
 ghost use Rattle.automaton.specs.Sets.{bit};
 
 use crate::below;
+use automaton::{MAX_STATES, least_member};
 use std::marker::Model;
+
+// The least state of a set, found byte by byte; 32 where there is none.
+fn least(set: u32) -> usize
+    ensures { result ≡ next_from (bit set) 32 0 }
+{
+    for b in 0..4 {
+        let m = least_member(((set >> (b * 8)) % 256) as u8);
+        if m < 8 {
+            return b * 8 + m;
+        }
+    }
+    MAX_STATES
+}
 
 // The states of a set that are left, lowest first; seen as their list.
 #[derive(Drop)]
@@ -34,7 +48,7 @@ impl Iterator for States {
         if self.rest == 0 {
             return None;
         }
-        let q = self.rest.trailing_zeros() as usize;
+        let q = least(self.rest);
         self.rest &= self.rest - 1;
         Some(q)
     }

@@ -9,8 +9,8 @@ returns-then-self-eq0-clause-steps c =
     let e = sym c.self.view_is ∙ none_of_word c.self.inside.rest c.if-self-eq0.true in (e, e)
 
 pub returns-clause-steps : goal.returns-clause-steps
-returns-clause-steps c = sym c.self.view_is ∙ next_of_word c.self.inside.rest (omega arith) c.if-self-eq0.false
+returns-clause-steps c = sym c.self.view_is ∙ next_of_word c.self.inside.rest c.least-q.result (omega arith) c.if-self-eq0.false c.least-q.ensures
 
 pub returns-clause-goes : goal.returns-clause-goes
 returns-clause-goes c =
-    goes _ (λ l. tt) _ _ _ (sym c.self.view_is ∙ next_of_word c.self.inside.rest (omega arith) c.if-self-eq0.false)
+    goes _ (λ l. tt) _ _ _ (sym c.self.view_is ∙ next_of_word c.self.inside.rest c.least-q.result (omega arith) c.if-self-eq0.false c.least-q.ensures)
