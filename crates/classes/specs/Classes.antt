@@ -14,9 +14,8 @@
 --   class_at                  the class of slot s, as the index has it
 --   index_after              the index after slot n with key k and left state t has joined the class c, or led one where c is 0
 -- Shown by `class_listed`, `class_at_lem` and `classes_append`. Assumes nothing.
-use Rattle.std.specs.Prelude.{◌≡◌, Bool, true, false, cond, ◌&&◌, List, [], ◌∷◌, ℕ, zero, suc, ◌+◌, ◌*◌, ◌/◌, ◌%◌, ◌^◌, ◌≤◌, ◌<◌, eqb, length, get_or, set, replicate}
-use Rattle.std.specs.Int.{w64, from_le_bytes}
-use Rattle.std.specs.Int.Bits.{bit_xor}
+use Rattle.std.specs.Prelude.{◌≡◌, Bool, true, false, cond, ◌&&◌, List, ℕ, zero, suc, ◌+◌, ◌*◌, ◌/◌, ◌%◌, ◌^◌, ◌≤◌, ◌<◌, eqb, length, get_or, set, replicate}
+use Rattle.std.specs.Int.Bits.{bit_or, bit_xor}
 use Rattle.automaton.specs.Automata.{max_states}
 use Rattle.automaton.specs.Ranges.{some}
 use Rattle.automaton.specs.Sets.{bit, with_bit}
@@ -49,9 +48,9 @@ keys = 4096
 -- eight counters, from number i on, as one number, the first one lowest
 unfoldable pub eight_from : List ℕ → ℕ → ℕ
 eight_from cs i =
-    from_le_bytes w64
-    (get_or cs i 0 ∷ get_or cs (i + 1) 0 ∷ get_or cs (i + 2) 0 ∷ get_or cs (i + 3) 0 ∷ get_or cs (i + 4) 0 ∷ get_or cs (i + 5) 0
-    ∷ get_or cs (i + 6) 0 ∷ get_or cs (i + 7) 0 ∷ [])
+    bit_or (bit_or (bit_or (bit_or (bit_or (bit_or (bit_or (get_or cs i 0) (get_or cs (i + 1) 0 * 2 ^ 8 % 2 ^ 64)) (get_or cs (i + 2) 0 * 2 ^ 16 % 2 ^ 64))
+    (get_or cs (i + 3) 0 * 2 ^ 24 % 2 ^ 64)) (get_or cs (i + 4) 0 * 2 ^ 32 % 2 ^ 64)) (get_or cs (i + 5) 0 * 2 ^ 40 % 2 ^ 64))
+    (get_or cs (i + 6) 0 * 2 ^ 48 % 2 ^ 64)) (get_or cs (i + 7) 0 * 2 ^ 56 % 2 ^ 64)
 
 -- the key of four numbers of 64 bits: folded to 64 bits and to 32, and multiplied. The 12 bits in the middle of the product depend on each of the four
 unfoldable pub key_from : ℕ → ℕ → ℕ → ℕ → ℕ

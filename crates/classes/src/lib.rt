@@ -38,7 +38,7 @@ pub struct Class {
 }
 
 // Eight counters, from number i on, as one number. The bytes are written out: so it is one load, and an array made of a slice is no plainer.
-#[tactic(auto, unfolding(crate::specs::Classes::eight_from))]
+#[tactic(auto, using(crate::proofs::Words::eight_read))]
 fn eight(counters: &[u8; 32], i: usize) -> u64
     requires { i ≤ 24 }
     ensures { result ≡ eight_from counters.now i }
