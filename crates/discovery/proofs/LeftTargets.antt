@@ -49,12 +49,13 @@ grows_on work n work' m work'' r G H =
     }
 
 pub grown_none : (l : Listed) → Grown l l
-grown_none l = record { same_buffer = refl; same_index = refl; grows = grows_none l.work.now l.count }
+grown_none l = record { same_buffer = refl; same_length = refl; same_index = refl; grows = grows_none l.work.now l.count }
 
 pub grown_on : (l m k : Listed) → Grown l m → Grown m k → Grown l k
 grown_on l m k G H =
     record {
       same_buffer = H.same_buffer ∙ G.same_buffer;
+      same_length = H.same_length ∙ G.same_length;
       same_index = H.same_index ∙ G.same_index;
       grows = grows_on l.work.now l.count m.work.now m.count k.work.now (Ok k.count) G.grows H.grows;
     }

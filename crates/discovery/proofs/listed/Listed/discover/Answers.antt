@@ -51,6 +51,7 @@ returns-then-place-slot_count-clause-grows c =
     let l = a.self.now in
     let g = goal.at.returns-then-place-slot_count-clause-grows c in record {
       same_buffer = refl;
+      same_length = c.append.auto.work;
       same_index = refl;
       grows = rw c.append.ensures.bytes
           (grows_with_slot l.work.now l.count (vertex_of a.left a.side.keyed.counters.now) a.edge.letter a.edge.parent (free g.Then-place-slot_count)
