@@ -1,12 +1,15 @@
--- The next member of a range, found byte by byte.
+-- Bits of a number with its low bits cleared, and the next member of a range, found byte by byte.
 -- Then loops over ranges that test, sum and look for members that the header lacks: the rest from i on gives the answer of the whole. Last, that
 -- between the header's states a transition is its bit. Assumes nothing.
-use mathlib.Core.Path.{◌≡◌, refl, ap, ◌∙◌}
+use mathlib.Core.Path.{◌≡◌, refl, sym, ap, ◌∙◌}
 use mathlib.Core.Bool.{Bool, true, false, ◌&&◌, ◌||◌, not}
 use mathlib.Core.List.{List, ◌∷◌}
-use Prim.Native.Nat.{ℕ, zero, suc, ◌+◌, ◌-◌, ◌*◌, ◌≤◌, ◌<◌}
+use Prim.Native.Nat.{ℕ, zero, suc, ◌+◌, ◌-◌, ◌*◌, ◌/◌, ◌%◌, ◌^◌, ◌≤◌, ◌<◌}
+use native.Mathlib.Nat.{mul_assoc}
 use native.Mathlib.Omega.{arith}
-use lib.Dec.{ltb}
+use lib.Bits.{shifted_even}
+use lib.Dec.{eqb, ltb}
+use lib.Pow.{pow-add, shl-shr, shr-shr}
 use borrow.Author.Tests.{lt-ltb, le-ltb}
 use Rattle.automaton.specs.declared.Automaton.{Automaton}
 use Rattle.automaton.specs.Ranges.{some, next_from, those, total}
@@ -15,6 +18,34 @@ use Rattle.automaton.specs.Automata.{transition}
 use Rattle.automaton.specs.Members.{transition_in}
 use Rattle.automaton.proofs.Ranges.{same_along, next_skip, next_is}
 use Rattle.automaton.proofs.LeastMembers.{least_holds, least_before}
+
+-- Bits.
+
+-- division and multiplication by 2 ^ k clear the bits below k ..
+pub bit_cleared : (w k i : ℕ) → i < k → bit (w / 2 ^ k * 2 ^ k) i ≡ false
+bit_cleared w k i h = go (k - suc i) (omega arith)
+  where
+    go : (d : ℕ) → k ≡ suc d + i → bit (w / 2 ^ k * 2 ^ k) i ≡ false
+    go d e =
+        ap (λ (n : ℕ). eqb (n / 2 ^ i % 2) 1)
+        (ap (λ (x : ℕ). w / 2 ^ k * 2 ^ x) e
+        ∙ ap (λ (x : ℕ). w / 2 ^ k * x) (pow-add 2 (suc d) i)
+        ∙ sym (mul_assoc (w / 2 ^ k) (2 ^ suc d) (2 ^ i)))
+        ∙ ap (λ (n : ℕ). eqb (n % 2) 1) (shl-shr (w / 2 ^ k * 2 ^ suc d) i)
+        ∙ ap (λ (n : ℕ). eqb n 1) (shifted_even (w / 2 ^ k) d)
+
+-- .. and keep the others
+pub bit_kept : (w k i : ℕ) → k ≤ i → bit (w / 2 ^ k * 2 ^ k) i ≡ bit w i
+bit_kept w k i h = go (i - k) (omega arith)
+  where
+    go : (d : ℕ) → i ≡ k + d → bit (w / 2 ^ k * 2 ^ k) i ≡ bit w i
+    go d e =
+        ap (λ (n : ℕ). eqb (n % 2) 1)
+        (ap (λ (x : ℕ). w / 2 ^ k * 2 ^ k / 2 ^ x) e
+        ∙ sym (shr-shr (w / 2 ^ k * 2 ^ k) k d)
+        ∙ ap (λ (x : ℕ). x / 2 ^ d) (shl-shr (w / 2 ^ k) k)
+        ∙ shr-shr w k d
+        ∙ ap (λ (x : ℕ). w / 2 ^ x) (sym e))
 
 -- The next member is found byte by byte: v is the byte of the numbers from b * 8 on, and n its least member.
 

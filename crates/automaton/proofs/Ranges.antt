@@ -134,6 +134,14 @@ module _ (f : ℕ → Bool) where
       go : (n k : ℕ) → n ≡ suc k → next_from f n t ≡ t
       go n k q = ap (λ (x : ℕ). next_from f x t) q ∙ ap (λ (b : Bool). elim b [ true ↦ t | false ↦ next_from f k (suc t) ]) e
 
+-- tests that agree over a range have the same next member
+pub next_same : (f g : ℕ → Bool) (n i : ℕ) → ((k : ℕ) → i ≤ k → k < i + n → f k ≡ g k) → next_from f n i ≡ next_from g n i
+unfolding next_from
+next_same f g zero i e = refl
+next_same f g (suc n) i e =
+    ap (λ (b : Bool). elim b [ true ↦ i | false ↦ next_from f n (suc i) ]) (e i (omega arith) (omega arith))
+    ∙ ap (λ (x : ℕ). elim (g i) [ true ↦ i | false ↦ x ]) (next_same f g n (suc i) (λ k p q. e k (omega arith) (omega arith)))
+
 -- Lists of the numbers that pass.
 
 pub those_has : (f : ℕ → Bool) (n i k : ℕ) → k < n → T (f (i + k)) → Memᴰ (i + k) (those f n i)

@@ -13,7 +13,7 @@ use automaton::{Automaton, MAX_LETTERS};
 
 mod states;
 
-pub use states::{States, states_below, states_of};
+pub use states::{States, next_state, states_below, states_of};
 
 // Whether state q is in the set. This and `with_state` stand beside those of `automaton` for a byte: a trait of both would have both bodies again.
 pub fn has(set: u32, q: usize) -> bool

@@ -1,5 +1,5 @@
 // The states of a set, one after the other.
-ghost use Rattle.std.specs.Prelude.{◌≡◌, ◌<◌, ◌≤◌, All};
+ghost use Rattle.std.specs.Prelude.{◌≡◌, ◌-◌, ◌<◌, ◌≤◌, All};
 ghost use Rattle.std.specs.Iterator.{YieldsFirst, item_count};
 ghost use Rattle.automaton.specs.Ranges.{next_from, those};
 ghost use Rattle.automaton.specs.Sets.{bit};
@@ -19,6 +19,18 @@ fn least(set: u32) -> usize
         }
     }
     MAX_STATES
+}
+
+// The least state of the set from q on; 32 where there is none.
+pub fn next_state(set: u32, q: usize) -> usize
+    requires { q ≤ 32 }
+    ensures { result ≡ next_from (bit set) (32 - q) q }
+{
+    if q < 32 {
+        least(set >> q << q)
+    } else {
+        MAX_STATES
+    }
 }
 
 // The states of a set that are left, lowest first; seen as their list.
