@@ -3,12 +3,12 @@
 // each; and where the last is 0 the numbers of states, letters and transitions, and the dead states.
 #![tactic(auto)]
 
-ghost use Rattle.std.specs.Prelude.{◌<◌};
+ghost use Rattle.std.specs.Prelude.{◌<◌, length};
+ghost use Rattle.input.specs.Counts.{IsPrefixLen};
 
 use automaton::{Automaton, MAX_STATES, Valid};
 use format::{FileRefusal, Numbered};
 use input::read_full;
-use std::alloc::{AllocError, Global};
 use std::io;
 
 // Writes the numbers of the states whose flags are set.
@@ -42,21 +42,21 @@ fn show_automaton(rt: &impl Print, valid: Valid) -> io::Result<()> {
     show_dead(rt, valid)
 }
 
-// Writes the refusal number of a file, 0 where it is read.
-#[tactic(auto, unfolding(automaton::specs::Automata::bare))]
-fn show_refusal(rt: &impl Print, file: &[u8]) -> io::Result<()> {
-    let read = file::read(file, &mut Automaton::empty());
+// Writes the refusal number of what reading a file gave, 0 where it was read.
+fn show_refusal(rt: &impl Print, read: Result<(), FileRefusal>) -> io::Result<()> {
     rt.print(read.err().map_or(0, FileRefusal::number))
 }
 
-// Writes what reading each truncation of a file gives, and then the automaton where all of it is read.
+// Writes what reading each truncation of a file gives, and then what reading all of it gives.
 #[tactic(auto, unfolding(automaton::specs::Automata::bare))]
 fn show_file(rt: &impl Print, file: &[u8]) -> io::Result<()> {
-    for n in 0..=file.len() {
-        show_refusal(rt, &file[..n])?;
+    for n in 0..file.len() {
+        show_refusal(rt, file::read(&file[..n], &mut Automaton::empty()))?;
     }
     let mut automaton = Automaton::empty();
-    if file::read(file, &mut automaton).is_ok() {
+    let read = file::read(file, &mut automaton);
+    show_refusal(rt, read)?;
+    if read.is_ok() {
         show_automaton(
             rt,
             Valid {
@@ -74,24 +74,25 @@ fn digit(c: u8) -> u8
     if c < b'a' { c % 16 } else { (c % 16 + 9) % 16 }
 }
 
-// The first 64 bytes that a text gives, each in two digits behind a colon or a space.
-fn bytes_of(alloc: Global, text: &[u8]) -> Result<Vec<u8>, AllocError> {
+// Puts the bytes that a text gives, each in two digits behind a colon or a space, at the front of a file, and answers the part of it that they fill.
+fn put_bytes<'a>(text: &[u8], file: &'a mut [u8]) -> &'a [u8]
+    ensures { IsPrefixLen (length result.now) file.old }
+{
     let (chunks, _) = text.as_chunks::<3>();
-    chunks
-        .iter()
-        .take(64)
-        .map(|[_, high, low]| digit(*high) * 16 + digit(*low))
-        .collect(alloc)
+    for (byte, [_, high, low]) in file.iter_mut().zip(chunks) {
+        *byte = digit(*high) * 16 + digit(*low);
+    }
+    &file[..chunks.len().min(file.len())]
 }
 
 // Writes the line of the file that a line of the input gives.
-fn show_line(rt: &(impl Print + AllocGlobal), line: &[u8]) -> io::Result<()> {
+fn show_line(rt: &impl Print, line: &[u8]) -> io::Result<()> {
     let line = line.strip_suffix(b"\n").unwrap_or(line);
     let colon = line.iter().position(|c| *c == b':').unwrap_or(line.len());
     let (name, text) = line.split_at(colon);
     rt.write_all(name)?;
     rt.write_all(b": ")?;
-    show_file(rt, &bytes_of(rt.alloc(), text)?)
+    show_file(rt, put_bytes(text, &mut [0; 64]))
 }
 
 fn main(rt: HostRuntime) -> io::Result<()> {
