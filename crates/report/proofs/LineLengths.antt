@@ -33,7 +33,7 @@ WordAnswer (NoSlots i n) = Unit
 WordAnswer (NoRoom i len) = Unit
 
 number_length : (n : ℕ) → Word n → length (decimal n) ≤ 20
-number_length n h = decimal_length 19 n (omega arith) h
+number_length n h = decimal_length 19 n (omega arith)
 
 percent_at_most : (first held : ℕ) → percent_saved first held < 101
 unfolding percent_saved
@@ -57,7 +57,7 @@ unfolding letters
 letters_length [] h = omega arith
 letters_length (a ∷ w) h =
     let byte : a < 256 = h 0 0 (omega arith) in
-    let first = decimal_length 2 a (omega (arith, byte)) (omega (arith, byte)) in
+    let first = decimal_length 2 a (omega (arith, byte)) in
     let rest = letters_length w (All-tail (λ x. x < 256) a w h) in
     simp length-append (omega arith)
 

@@ -4,7 +4,7 @@ use Rattle.text.proofs.Decimals.{decimal_length}
 use Rattle.text.proofs.parts.put_decimal.Goals as goal
 
 pub put_digits-requires : goal.put_digits-requires
-put_digits-requires c = omega (arith, decimal_length 19 c.args.n (omega arith) (omega arith))
+put_digits-requires c = omega (arith, decimal_length 19 c.args.n (omega arith))
 
 pub returns-clause-upper_bound : goal.returns-clause-upper_bound
-returns-clause-upper_bound c = omega (arith, decimal_length 19 c.args.n (omega arith) (omega arith))
+returns-clause-upper_bound c = omega (arith, decimal_length 19 c.args.n (omega arith))

@@ -5,10 +5,10 @@ use Rattle.text.proofs.Decimals.{decimal_length}
 use Rattle.text.proofs.parts.put_letter.Goals as goal
 
 pub put_digits-requires : goal.put_digits-requires
-put_digits-requires c = omega (arith, decimal_length 2 c.args.letter (omega arith) (omega arith), added_length c.put_byte.ensures)
+put_digits-requires c = omega (arith, decimal_length 2 c.args.letter (omega arith), added_length c.put_byte.ensures)
 
 pub returns-clause-added : goal.returns-clause-added
 returns-clause-added c = added_append c.put_byte.ensures c.put_digits.ensures
 
 pub returns-clause-upper_bound : goal.returns-clause-upper_bound
-returns-clause-upper_bound c = omega (arith, decimal_length 2 c.args.letter (omega arith) (omega arith))
+returns-clause-upper_bound c = omega (arith, decimal_length 2 c.args.letter (omega arith))
