@@ -1,4 +1,5 @@
 -- Laws of numbers and letters as text.
 pub mod Decimals
 pub mod Letters
+pub mod Percent
 pub mod Examples
