@@ -3,15 +3,15 @@
 use mathlib.Core.Path.{◌≡◌, refl, sym, ap, ap₂, subst, ◌∙◌}
 use mathlib.Core.Bool.{Bool, true, false, ◌&&◌, ◌||◌}
 use mathlib.Core.List.{List, ◌++◌}
-use Prim.Native.Nat.{ℕ, zero, suc, ◌+◌, ◌*◌, ◌/◌, ◌%◌, ◌^◌, ◌-◌, ◌≤◌, ◌<◌}
+use Prim.Native.Nat.{ℕ, zero, suc, ◌+◌, ◌*◌, ◌/◌, ◌%◌, ◌^◌, ◌-◌, ◌≤◌, ◌<◌, min}
 use native.Mathlib.Nat.{pow-suc, div-eq_of_lt, add-zero, add-suc, zero-add}
 use native.Mathlib.Numerals.{add-one}
 use native.Mathlib.Omega.{arith}
 use lib.Bits.{bit_or}
 use lib.Dec.{eqb, ltb}
-use lib.ListN.{length, get_or, set, take, drop, length-set, length-drop}
+use lib.ListN.{length, get_or, set, take, drop, length-set, length-take, length-drop, take-append-drop}
 use lib.Pow.{shr-shr}
-use lib.Seq.{get_or-set_same, get_or-set_other, get_or-drop}
+use lib.Seq.{ext_get_or, get_or-set_same, get_or-set_other, get_or-take, get_or-drop}
 use borrow.Author.Tests.{ltb-true, ltb-false, lt-ltb, le-ltb}
 use borrow.Rule.Slice.PartMut.{mid_of, put_mid}
 use Rattle.std.proofs.Common.{take_all, append-nil}
@@ -212,6 +212,50 @@ filled_unions t t' values groups fits e =
         ∙ ap (λ (w : ℕ). bit w q) (changed_row 0 (groups * 16) union t (omega arith) (g * 16 + m) (omega arith))
         ∙ ap₂ (λ (x y : ℕ). bit (union_of (drop (x * 4) values) 4 y) q) d r
         ∙ union_chosen (drop (g * 4) values) 4 m q
+
+-- a table whose entries from place at on are unions, and whose others stay, is filled there
+pub unions_filled : (t t' values : List ℕ) (at first groups : ℕ) → at + groups * 16 ≤ length t → length t' ≡ length t
+    → Unions (drop at t') (drop first values) groups × SameElsewhere at (groups * 16) t t'
+    → t' ≡ take at t ++ filled (drop at t) (drop first values) groups
+unions_filled t t' values at first groups fits e u =
+    sym (take-append-drop at t')
+    ∙ ap₂ ◌++◌ front (rows_changed 0 (groups * 16) _ (drop at t) (omega (arith, length-drop at t)) (drop at t') behind kept (λ j h. words_same _ _ (λ q. entry j h q)))
+  where
+    front : take at t' ≡ take at t
+    front = ext_get_or 0 (take at t') (take at t) (length-take at t' ∙ ap (min at) e ∙ sym (length-take at t))
+        (λ j h.
+        let l : j < at = omega (arith, length-take at t') in
+        get_or-take at t' j 0 l ∙ u.1.before j l ∙ sym (get_or-take at t j 0 l))
+
+    behind : length (drop at t') ≡ length (drop at t)
+    behind = length-drop at t' ∙ ap (λ (n : ℕ). n - at) e ∙ sym (length-drop at t)
+
+    kept : SameElsewhere 0 (groups * 16) (drop at t) (drop at t')
+    kept = record {
+      before = λ j h. absurd (omega arith);
+      after = λ j h. get_or-drop at t' j 0 ∙ u.1.after (at + j) (omega arith) ∙ sym (get_or-drop at t j 0);
+    }
+
+    entry : (j : ℕ) → j < groups * 16 → (q : ℕ)
+        → bit (get_or (drop at t') (0 + j) 0) q ≡ bit (union_of (drop (j / 16 * 4) (drop first values)) 4 (j % 16)) q
+    entry j h q =
+        let i : 0 + j ≡ j / 16 * 16 + j % 16 = omega arith in
+        ap (λ (x : ℕ). bit (get_or (drop at t') x 0) q) i
+        ∙ ap (λ (w : ℕ). bit w q) (sym (get_or-drop (j / 16 * 16) (drop at t') (j % 16) 0))
+        ∙ u.0 (j / 16) (omega arith) (j % 16) q (omega arith)
+        ∙ sym (union_chosen (drop (j / 16 * 4) (drop first values)) 4 (j % 16) q)
+
+-- a table that changes behind its unions keeps them
+pub unions_kept : (values : List ℕ) (at first : ℕ) (t t' : List ℕ) (groups at' n : ℕ) → at + groups * 16 ≤ at' → SameElsewhere at' n t t'
+    → Unions (drop at t) (drop first values) groups → Unions (drop at t') (drop first values) groups
+unions_kept values at first t t' groups at' n h k u g hg m q l =
+    let l₁ : m < 16 = l in
+    ap (λ (w : ℕ). bit w q)
+      (get_or-drop (g * 16) (drop at t') m 0
+      ∙ get_or-drop at t' (g * 16 + m) 0
+      ∙ k.before (at + (g * 16 + m)) (omega arith)
+      ∙ sym (get_or-drop (g * 16) (drop at t) m 0 ∙ get_or-drop at t (g * 16 + m) 0))
+    ∙ u g hg m q l
 
 -- Entries looked up.
 
