@@ -22,6 +22,12 @@ items_append [] ys = refl
 items_append (x ∷ xs) ys =
     ap (λ (l : List ℕ). item_bytes x ++ l) (items_append xs ys) ∙ sym (append_assoc (item_bytes x) (items_bytes xs) (items_bytes ys))
 
+pub items_chained : (f : ℕ → List Item) (n i : ℕ) → items_bytes (chained f n i) ≡ chained (λ k. items_bytes (f k)) n i
+unfolding items_bytes chained
+items_chained f zero i = refl
+items_chained f (suc n) i =
+    items_append (f i) (chained f n (suc i)) ∙ ap (λ (l : List ℕ). items_bytes (f i) ++ l) (items_chained f n (suc i))
+
 -- Their lengths.
 
 -- records of w bytes each, of the numbers that pass
