@@ -14,7 +14,10 @@ use lib.ListN.{length, get_or}
 use Rattle.automaton.proofs.Booleans.{not_T_false, and_both, is_true, clash}
 use Rattle.slots.specs.declared.Vertex.{Vertex}
 use Rattle.slots.specs.Slots.{same_vertex, all_zero}
-use Rattle.slots.proofs.Vertices.{same_vertex_eq}
+use Rattle.slots.proofs.Vertices.{same_vertex_eq, all_zero_at}
+
+pub not_zero_at : (cs : List ℕ) (i : ℕ) → (get_or cs i 0 ≡ 0 → ⊥) → all_zero cs ≡ false
+not_zero_at cs i n = not_T_false (all_zero cs) (λ t. n (all_zero_at cs t i))
 
 pub zero_everywhere : (cs : List ℕ) → ((k : ℕ) → k < length cs → get_or cs k 0 ≡ 0) → all_zero cs ≡ true
 unfolding all_zero
