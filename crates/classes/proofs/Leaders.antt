@@ -199,6 +199,9 @@ module _ (work cs : List ℕ) (k : ℕ) (key : k ≡ key_of cs) where
       let d = class_last work cs n (c - 1) (omega arith) (sym (equal_lists cs (counters_at work (c - 1)) e)) (C.leader l).0 in
       omega arith
 
+  pub chain_end : (n c : ℕ) → OnChain work cs n k c → c ≤ 0 → 0 ≡ class_of work cs n
+  chain_end n c C l = let r = C.rest in omega arith
+
   module _ (index : Index) (n : ℕ) (I : Chained work index n) where
     pub chain_start : k < keys → OnChain work cs n k (get_or index.heads k 0)
     chain_start l = rw (I.head_is k l) (chain_top n n (omega arith) (class_le work cs n))
