@@ -1,5 +1,5 @@
--- The classes that are kept are those of the counters after a step: after a class has taken its line, after a step is kept, and among more
--- slots. The idea: places that are 0 say nothing, and a class that is not 0 stays. Assumes nothing.
+-- The classes that are kept are those of the counters after a step: at the beginning, after a class has taken its line, after a step is kept, and
+-- among more slots. The idea: places that are 0 say nothing, and a class that is not 0 stays. Assumes nothing.
 use mathlib.Core.Path.{◌≡◌, refl, sym, ◌∙◌, ap, subst}
 use mathlib.Core.Bool.{Bool, true, false, cond}
 use mathlib.Core.Logic.{◌≢◌}
@@ -9,7 +9,7 @@ use native.Mathlib.Omega.{arith}
 use borrow.Author.Tests.{eqb-true, eqb-false, ltb-true, ltb-false}
 use borrow.Rule.Slice.PartMut.{mid_of, put_mid}
 use lib.Dec.{eqb, ltb}
-use lib.ListN.{length, get_or, set, replicate, length-set, length-take, length-drop}
+use lib.ListN.{length, get_or, set, replicate, length-set, length-take, length-drop, length-replicate, get_or-replicate}
 use lib.Seq.{get_or-set_same, get_or-set_other, drop-drop}
 use Rattle.automaton.specs.Automata.{max_letters}
 use Rattle.automaton.specs.Ranges.{table}
@@ -35,6 +35,16 @@ step_same : (tops m : List ℕ) (states : ℕ) (work : List ℕ) (n : ℕ) (kept
     → ((y : ℕ) → y < 2 → get_or kept' (at + y) 0 ≡ get_or kept (at + y) 0)
     → KeptStep tops m states work n kept at a f → KeptStep tops m states work n kept' at a f
 step_same tops m states work n kept kept' at a f same S y s l e = S y s l (sym (same y l) ∙ e)
+
+-- no class has a line
+pub kept_begin : (tops m : List ℕ) (states : ℕ) (work : List ℕ) (n : ℕ)
+    → KeptLines tops m states work n (replicate lines 0) (replicate (lines * line_length) 0)
+kept_begin tops m states work n =
+    record {
+      owners_long = length-replicate {A = ℕ} lines 0;
+      kept_long = length-replicate {A = ℕ} (lines * line_length) 0;
+      owned = λ l k h e. absurd (omega (arith, get_or-replicate {A = ℕ} lines l 0 0 h));
+    }
 
 module _ (tops m : List ℕ) (states : ℕ) (work : List ℕ) (n : ℕ) (owners kept : List ℕ) (K : KeptLines tops m states work n owners kept) where
   -- the class of slot k takes line L
