@@ -12,8 +12,8 @@ use native.Mathlib.Omega.{arith}
 use borrow.Author.Count.{below_more}
 use borrow.Author.Tests.{ltb-true, ltb-false, lt-ltb}
 use lib.Dec.{T, ltb}
-use lib.ListN.{length, get_or, take, set, length-append, length-set, replicate}
-use lib.Seq.{take-set-le, take-suc-set}
+use lib.ListN.{length, get_or, take, set, length-append, length-set, length-replicate, replicate}
+use lib.Seq.{get_or-take, take-set-le, take-suc-set}
 use Rattle.automaton.specs.Automata.{max_states}
 use Rattle.automaton.specs.Ranges.{those, table, largest}
 use Rattle.automaton.proofs.Ranges.{those_has, table_at}
@@ -21,7 +21,7 @@ use Rattle.automaton.proofs.Booleans.{is_true}
 use Rattle.step.specs.Masks.{row_place}
 use Rattle.relations.proofs.Rows.{table_same}
 use Rattle.step.specs.Steps.{largest_masked, all_largest, present_states, places_after, PresentOf}
-use Rattle.step.proofs.Largest.{largest_more, largest_le, largest_bound}
+use Rattle.step.proofs.Largest.{largest_more, largest_le, largest_bound, largest_same}
 
 -- Lists of the numbers that pass: one number more, how many there are, and where each stands.
 
@@ -75,22 +75,22 @@ member_place {a} (x ∷ l) m =
 -- What the list of the states present says.
 
 module _ (f : List ℕ) (n : ℕ) where
-  pub present_few : length (present_states f n) ≤ n
-  present_few = those_few (λ p. ltb 0 (get_or f p 0)) n 0
+  pub states_present_few : length (present_states f n) ≤ n
+  states_present_few = those_few (λ p. ltb 0 (get_or f p 0)) n 0
 
-  pub present_below : (i : ℕ) → i < length (present_states f n) → get_or (present_states f n) i 0 < n
-  present_below i h = omega (arith, those_below (λ p. ltb 0 (get_or f p 0)) n 0 i h)
+  pub states_present_below : (i : ℕ) → i < length (present_states f n) → get_or (present_states f n) i 0 < n
+  states_present_below i h = omega (arith, those_below (λ p. ltb 0 (get_or f p 0)) n 0 i h)
 
-  present_all : (p : ℕ) → p < n → 0 < get_or f p 0 → (i : ℕ) × (i < length (present_states f n)) × (get_or (present_states f n) i 0 ≡ p)
-  present_all p h g =
+  states_present_all : (p : ℕ) → p < n → 0 < get_or f p 0 → (i : ℕ) × (i < length (present_states f n)) × (get_or (present_states f n) i 0 ≡ p)
+  states_present_all p h g =
       let t : T (ltb 0 (get_or f (0 + p) 0)) = is_true _ (ap (λ (k : ℕ). ltb 0 (get_or f k 0)) (zero-add p) ∙ lt-ltb 0 (get_or f p 0) g) in
       let r = member_place (present_states f n) (those_has (λ p. ltb 0 (get_or f p 0)) n 0 p h t) in
       (r.0, r.1, r.2 ∙ zero-add p)
 
   -- states that are not listed have no counter above 0
-  pub largest_listed : (g : ℕ → ℕ) → ((p : ℕ) → p < n → get_or f p 0 ≤ 0 → g p ≤ 0)
+  pub largest_present : (g : ℕ → ℕ) → ((p : ℕ) → p < n → get_or f p 0 ≤ 0 → g p ≤ 0)
       → largest (λ j. g (get_or (present_states f n) j 0)) (length (present_states f n)) 0 ≡ largest g n 0
-  largest_listed g none = omega (arith, most, least)
+  largest_present g none = omega (arith, most, least)
     where
       count : ℕ
       count = length (present_states f n)
@@ -99,23 +99,42 @@ module _ (f : List ℕ) (n : ℕ) where
       of_place j = g (get_or (present_states f n) j 0)
 
       most : largest of_place count 0 ≤ largest g n 0
-      most = largest_le of_place count (largest g n 0) (λ i h. largest_bound g n _ (present_below i h))
+      most = largest_le of_place count (largest g n 0) (λ i h. largest_bound g n _ (states_present_below i h))
 
       one : (p : ℕ) → p < n → (c : Bool) → ltb 0 (get_or f p 0) ≡ c → g p ≤ largest of_place count 0
       one p h true e =
-          let w = present_all p h (ltb-true 0 (get_or f p 0) e) in
+          let w = states_present_all p h (ltb-true 0 (get_or f p 0) e) in
           subst (λ (q : ℕ). g q ≤ largest of_place count 0) w.2 (largest_bound of_place count w.0 w.1)
       one p h false e = omega (arith, none p h (ltb-false 0 (get_or f p 0) e))
 
       least : largest g n 0 ≤ largest of_place count 0
       least = largest_le g n _ (λ p h. one p h (ltb 0 (get_or f p 0)) refl)
 
+-- The same of the places that hold the list.
+
+module _ (count : ℕ) (places f : List ℕ) (n : ℕ) (P : PresentOf count places f n) where
+  place_is : (i : ℕ) → i < count → get_or places i 0 ≡ get_or (present_states f n) i 0
+  place_is i h = sym (get_or-take count places i 0 h) ∙ ap (λ (l : List ℕ). get_or l i 0) P.places_are
+
+  pub present_few : count ≤ n
+  present_few = omega (arith, P.count_is, states_present_few f n)
+
+  pub present_below : (i : ℕ) → i < count → get_or places i 0 < n
+  present_below i h = omega (arith, place_is i h, states_present_below f n i (omega (arith, P.count_is)))
+
+  pub largest_listed : (g : ℕ → ℕ) → ((p : ℕ) → p < n → get_or f p 0 ≤ 0 → g p ≤ 0)
+      → largest (λ j. g (get_or places j 0)) count 0 ≡ largest g n 0
+  largest_listed g none =
+      largest_same (λ j. g (get_or places j 0)) (λ j. g (get_or (present_states f n) j 0)) count (λ j h. ap g (place_is j h))
+      ∙ ap (λ (k : ℕ). largest (λ j. g (get_or (present_states f n) j 0)) k 0) P.count_is
+      ∙ largest_present f n g none
+
 -- a place of the list has one of the states
 pub listed_below : (items : List ℕ) (i : ℕ) (count : ℕ) (places f : List ℕ) (n : ℕ) → PresentOf count places f n → items ≡ take count places
     → i < length items → get_or items i 0 < n
 listed_below items i count places f n P e h =
     let is : items ≡ present_states f n = e ∙ P.places_are in
-    rw is (present_below f n i (omega (arith, ap length is)))
+    rw is (states_present_below f n i (omega (arith, ap length is)))
 
 -- The states below p are listed, one after the other.
 
@@ -125,15 +144,25 @@ pub record Listing (f : List ℕ) (count : ℕ) (places : List ℕ) (p : ℕ) : 
   pub few : count ≤ p
   pub made : places ≡ places_after f p
 
+-- any places hold the list of no states
+pub present_none : (f places : List ℕ) → PresentOf 0 places f 0
+unfolding those
+present_none f places = record { count_is = refl; places_are = refl; bytes = λ q h. absurd (omega arith) }
+
+pub places_none : (f : List ℕ) → replicate max_states 0 ≡ places_after f 0
+unfolding places_after
+places_none f = refl
+
+pub places_next : (f : List ℕ) (count : ℕ) (places : List ℕ) (p : ℕ) → places ≡ places_after f p → count ≡ length (present_states f p)
+    → set places count p ≡ places_after f (p + 1)
+unfolding places_after
+places_next f count places p e c = ap₂ (λ (l : List ℕ) (k : ℕ). set l k p) e c ∙ ap (places_after f) (sym (add-one p))
+
 pub listing_none : (f : List ℕ) → Listing f 0 (replicate max_states 0) 0
-unfolding those places_after
-listing_none f =
-    record {
-      long = refl;
-      listed = record { count_is = refl; places_are = refl; bytes = λ q h. absurd (omega arith) };
-      few = omega arith;
-      made = refl;
-    }
+listing_none f = record { long = length-replicate {A = ℕ} max_states 0; listed = present_none f _; few = omega arith; made = places_none f }
+
+pub listing_few : (f : List ℕ) (count : ℕ) (places : List ℕ) (p : ℕ) → Listing f count places p → count ≤ p
+listing_few f count places p L = L.few
 
 module _ (f : List ℕ) (count : ℕ) (places : List ℕ) (p : ℕ) (L : Listing f count places p) (room : p < max_states) where
   states_more : present_states f (p + 1) ≡ present_states f p ++ cond (ltb 0 (get_or f p 0)) (p ∷ []) []
@@ -143,14 +172,13 @@ module _ (f : List ℕ) (count : ℕ) (places : List ℕ) (p : ℕ) (L : Listing
       ∙ ap (λ (k : ℕ). present_states f p ++ cond (ltb 0 (get_or f k 0)) (k ∷ []) []) (zero-add p)
 
   pub listing_next : (m : ℕ) → m ≡ cond (ltb 0 (get_or f p 0)) (count + 1) count → get_or f p 0 < 256 → Listing f m (set places count p) (p + 1)
-  unfolding places_after
   listing_next m e small =
       let w = made (ltb 0 (get_or f p 0)) refl m e in
       record {
         long = length-set places count p ∙ L.long;
         listed = record { count_is = w.0; places_are = w.1; bytes = below_more (λ q. get_or f q 0 < 256) p L.listed.bytes small };
-        few = omega (arith, w.0, present_few f (p + 1));
-        made = ap₂ (λ (l : List ℕ) (k : ℕ). set l k p) L.made L.listed.count_is ∙ ap (places_after f) (sym (add-one p));
+        few = omega (arith, w.0, states_present_few f (p + 1));
+        made = places_next f count places p L.made L.listed.count_is;
       }
     where
       made : (c : Bool) → ltb 0 (get_or f p 0) ≡ c → (m : ℕ) → m ≡ cond c (count + 1) count
@@ -211,6 +239,6 @@ module _ (m : List ℕ) (n a : ℕ) (f : List ℕ) where
       ap (raised_by ps) all
       ∙ ap (λ (qs : List ℕ). raised_by qs (length qs)) is
       ∙ table_same (λ r. largest (λ j. masked_counter m n a f r (get_or (present_states f n) j 0)) (length (present_states f n)) 0)
-      (largest_masked m n a f) max_states (λ r h. largest_listed f n (masked_counter m n a f r) (λ p i z. omega arith))
+      (largest_masked m n a f) max_states (λ r h. largest_present f n (masked_counter m n a f r) (λ p i z. omega arith))
 
 pub ruleset raising = (listed_below, raised_none, raised_more, raised_all)

@@ -2,13 +2,15 @@
 -- raised and what a state that does not accept gets. The masks of the transitions show that largest counter. Assumes nothing.
 use mathlib.Core.Path.{◌≡◌, sym, ◌∙◌, ap}
 use mathlib.Core.Bool.{Bool, true, false, cond, ◌&&◌}
+use mathlib.Core.Logic.{⊎_elim}
 use mathlib.Core.List.{List}
 use Prim.Native.Nat.{ℕ, ◌+◌, ◌-◌, ◌≤◌, ◌<◌, min}
+use native.Mathlib.Nat.{eq-or-lt_of_le}
 use native.Mathlib.Omega.{arith}
 use borrow.Author.Tests.{ne_eqb}
 use lib.Dec.{ltb, lt→ltb}
-use lib.ListN.{length, get_or}
-use lib.Seq.{ext_get_or}
+use lib.ListN.{length, get_or, set, length-set}
+use lib.Seq.{ext_get_or, get_or-set_same, get_or-set_other}
 use Rattle.automaton.specs.declared.Automaton.{Automaton}
 use Rattle.automaton.specs.Automata.{max_states, max_letters, one, accepts, transition, InRange}
 use Rattle.automaton.specs.Members.{transition_in}
@@ -53,6 +55,16 @@ pub record TableWritten (f : ℕ → ℕ) (l : List ℕ) (r : ℕ) : Type 0 wher
   pub done : (k : ℕ) → k < r → get_or l k 0 ≡ f k
 
 module _ {f : ℕ → ℕ} {l : List ℕ} {r : ℕ} where
+  pub written_more : (y : ℕ) → r < max_states → TableWritten f l r → y ≡ f r → TableWritten f (set l r y) (r + 1)
+  written_more y h W e =
+      record {
+        long = length-set l r y ∙ W.long;
+        done =
+            λ k i.
+            ⊎_elim (λ q. rw q (get_or-set_same l r y 0 (omega (arith, W.long)) ∙ e))
+            (λ q. get_or-set_other l r k y 0 (λ d. absurd (omega arith)) ∙ W.done k q) (eq-or-lt_of_le {n = k} {m = r} (omega arith));
+      }
+
   pub written_all : max_states ≤ r → TableWritten f l r → l ≡ table f max_states 0
   written_all h W = table_is f l max_states W.long (λ k i. W.done k (omega arith))
 
