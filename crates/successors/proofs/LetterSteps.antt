@@ -2,9 +2,10 @@
 -- listed with the class of these counters is a set, and the targets that are in it can be left out. Assumes nothing.
 use mathlib.Core.Path.{◌≡◌, refl, sym, ◌∙◌, ap, ap₂, subst}
 use mathlib.Core.Bool.{Bool, true, false, cond, ◌&&◌, ◌||◌, not, true≢false}
+use mathlib.Core.Logic.{◌≢◌}
 use mathlib.Core.List.{List, [], ◌∷◌, map}
-use Prim.Native.Nat.{ℕ, zero, suc, ◌+◌, ◌%◌, ◌^◌, ◌≤◌, ◌<◌}
-use native.Mathlib.Nat.{add-zero, div-eq_of_lt, pow-le-pow_right}
+use Prim.Native.Nat.{ℕ, zero, suc, ◌+◌, ◌*◌, ◌%◌, ◌^◌, ◌≤◌, ◌<◌}
+use native.Mathlib.Nat.{add-zero, mul-le-mul_right, suc-mul, div-eq_of_lt, pow-le-pow_right}
 use native.Mathlib.Omega.{arith}
 use borrow.Author.Tests.{ltb-true, ltb-false, le-ltb, ne_eqb}
 use lib.Bits.{bit_and, bit_xor}
@@ -30,6 +31,7 @@ use Rattle.classes.proofs.ListedStates.{other, bit_of_xor, class_listed}
 use Rattle.graph.specs.Discovery.{Walk, going, below, discover_all}
 use Rattle.graph.specs.LagGraph.{stepped, successor, lag_graph}
 use Rattle.graph.proofs.Unlisted.{discover_unlisted}
+use Rattle.step.specs.Masks.{row_place}
 use Rattle.step.specs.Steps.{stepped_counters, counters_on}
 use Rattle.step.proofs.SteppedBytes.{transition_in_range}
 use Rattle.step.proofs.Steps.{counters_on_lem}
@@ -50,6 +52,11 @@ abbrev pub LetterDone : Automaton → Automaton → ℕ → Vertex → ℕ → �
 LetterDone A B b v a p before n work r = Becomes before n work r (λ S w. discover_all (lag_graph A B b) (below S) p w (edges_on A B b v a))
 
 -- Numbers.
+
+pub rows_fit : (letter letters states len : ℕ) → letter < letters → row_place states letters 0 ≤ len → row_place states letter states ≤ len
+rows_fit letter letters states len h l =
+    let k : suc letter * states ≤ letters * states = mul-le-mul_right {m = suc letter} {n = letters} states (omega arith) in
+    omega (arith, suc-mul letter states)
 
 bit_past : (w t : ℕ) → w < 2 ^ 32 → 32 ≤ t → bit w t ≡ false
 bit_past w t h l =
@@ -131,7 +138,7 @@ module _ (rules : Rules) (A B : Automaton) (b : ℕ) (R : RulesOf rules A B b) (
       go true = sym low_is
       go false = sym other_is
 
-  letter_edges : edges_on A B b (vertex_of left counters) letter ≡ map edge_to (those (bit targets-word) max_states 0)
+  pub letter_edges : edges_on A B b (vertex_of left counters) letter ≡ map edge_to (those (bit targets-word) max_states 0)
   unfolding successor
   letter_edges =
       ap (map (successor A B b (vertex_of left counters) letter)) all_targets
@@ -167,11 +174,34 @@ module _ (rules : Rules) (A B : Automaton) (b : ℕ) (R : RulesOf rules A B b) (
 
 -- Classes of the counters on one side.
 
-pub known_small : (l : Listed) (cs : List ℕ) (c : ℕ) → Known l cs c → c ≤ max_slots
-known_small l cs zero K = omega arith
-known_small l cs (suc s) K = let q = K s refl in let r = l.ready.room in omega (arith, class_le l.work.now cs l.count)
+module _ (work cs : List ℕ) (n : ℕ) where
+  -- a class that is not 0 is the class of the counters, of a list as of any n slots
+  abbrev pub KnownAmong : ℕ → Type 0
+  KnownAmong c = (s : ℕ) → c ≡ suc s → class_of work cs n ≡ suc s
+
+  pub known_small : (c : ℕ) → KnownAmong c → c ≤ n
+  known_small zero K = omega arith
+  known_small (suc s) K = let q = K s refl in omega (arith, class_le work cs n)
+
+  module _ (w kept c : ℕ) (e : c ≡ cond (eqb w 0) kept (class_of work cs n)) where
+    pub after_known : KnownAmong kept → KnownAmong c
+    after_known K s q = go (eqb w 0) (sym e ∙ q)
+      where
+        go : (x : Bool) → cond x kept (class_of work cs n) ≡ suc s → class_of work cs n ≡ suc s
+        go true u = K s u
+        go false u = u
+
+    pub after_class : (t : ℕ) → bit w t ≡ true → c ≡ class_of work cs n
+    after_class t h = e ∙ ap (λ (x : Bool). cond x kept (class_of work cs n)) (ne_eqb w 0 (λ z. clash {X = ⊥} h (ap (λ (y : ℕ). bit y t) z ∙ bit_zero t)))
+
+-- a list has no more slots than there are
+pub known_slots : (l : Listed) (cs : List ℕ) (c : ℕ) → Known l cs c → c ≤ max_slots
+known_slots l cs c K = let r = l.ready.room in omega (arith, known_small l.work.now cs l.count c K)
 
 -- What is kept.
+
+pub kept_places : (kept : List ℕ) (at c d : ℕ) (i : ℕ) → i ≢ at → i ≢ at + 1 → get_or (set (set kept at c) (at + 1) d) i 0 ≡ get_or kept i 0
+kept_places kept at c d i h g = get_or-set_other (set kept at c) (at + 1) i d 0 g ∙ get_or-set_other kept at i c 0 h
 
 module _ (rules : Rules) (l : Listed) (kept : List ℕ) (v : Vertex) (step : Step) where
   pub kept_low : StepKept rules l kept v step → Known l (Lowered rules step.edge.letter v.counters) (get_or kept step.at 0)

@@ -4,15 +4,15 @@ use mathlib.Core.Path.{refl, ◌∙◌, ap}
 use native.Mathlib.Omega.{arith}
 use Rattle.step.specs.Steps.{stepped_counters}
 use Rattle.discovery.specs.Lists.{answered}
-use Rattle.successors.proofs.LetterSteps.{known_small, kept_left, sides_left, sides_ready, kept_low, kept_other, kept_both, letter_done, letter_listed}
+use Rattle.successors.proofs.LetterSteps.{known_slots, kept_left, sides_left, sides_ready, kept_low, kept_other, kept_both, letter_done, letter_listed}
 use Rattle.successors.proofs.expand_letter.Goals as goal
 
 pub targets_unlisted-requires : goal.targets_unlisted-requires
 targets_unlisted-requires c =
     let a = c.args in
     let l = a.listed.now in (
-      known_small l _ _ (kept_low a.rules.now l a.kept.now a.source.now.vertex a.step c.requires.4),
-      known_small l _ _ (kept_other a.rules.now l a.kept.now a.source.now.vertex a.step c.requires.4),
+      known_slots l _ _ (kept_low a.rules.now l a.kept.now a.source.now.vertex a.step c.requires.4),
+      known_slots l _ _ (kept_other a.rules.now l a.kept.now a.source.now.vertex a.step c.requires.4),
     )
 
 pub returns-then-targets_unlisted-eq0-clause-represents : goal.returns-then-targets_unlisted-eq0-clause-represents
@@ -39,14 +39,14 @@ side_of-requires-2 c =
     (kept_other a.rules.now a.listed.now a.kept.now a.source.now.vertex a.step c.requires.4)
 
 pub overflow_cast-kept : goal.overflow_cast-kept
-overflow_cast-kept c = let small = known_small c.args.listed.now _ _ c.side_of.ensures.known in omega arith
+overflow_cast-kept c = let small = known_slots c.args.listed.now _ _ c.side_of.ensures.known in omega arith
 
 pub overflow_cast-kept-2 : goal.overflow_cast-kept-2
-overflow_cast-kept-2 c = let small = known_small c.args.listed.now _ _ c.side_of-2.ensures.known in omega arith
+overflow_cast-kept-2 c = let small = known_slots c.args.listed.now _ _ c.side_of-2.ensures.known in omega arith
 
 pub targets_unlisted-unlisted-requires : goal.targets_unlisted-unlisted-requires
 targets_unlisted-unlisted-requires c =
-    let l = c.args.listed.now in (known_small l _ _ c.side_of.ensures.known, known_small l _ _ c.side_of-2.ensures.known)
+    let l = c.args.listed.now in (known_slots l _ _ c.side_of.ensures.known, known_slots l _ _ c.side_of-2.ensures.known)
 
 pub discover_targets-requires : goal.discover_targets-requires
 discover_targets-requires c =
