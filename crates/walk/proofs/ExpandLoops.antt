@@ -3,6 +3,7 @@
 use mathlib.Core.Path.{◌≡◌, sym, ◌∙◌, ap, subst}
 use mathlib.Core.List.{List}
 use Prim.Native.Nat.{ℕ, suc, ◌+◌, ◌-◌, ◌≤◌, ◌<◌}
+use native.Mathlib.Nat.{sub-zero}
 use native.Mathlib.Numerals.{add-one}
 use native.Mathlib.Omega.{arith}
 use lib.ListN.{length}
@@ -92,6 +93,9 @@ module _ (A B : Automaton) (b : ℕ) where
   stopped_expand_all S k p work s start (full ns) R = expand_all_full (lag_graph A B b) (below S) k p ns
 
   module _ (before : List ℕ) (n : ℕ) where
+    pub expand_all_start : PlacesToGo before n before n 0
+    expand_all_start start ns S = (ns, S, rw (sub-zero (slot_count (length start))))
+
     module _ (work : List ℕ) (m p : ℕ) (O : PlacesToGo before n work m p) where
       pub expand_all_end : m ≤ p → PlacesDone before n work (Ok m)
       expand_all_end h start ns S =

@@ -67,6 +67,14 @@ rules_hold rules b R Q acc t m fits made =
       };
     }
 
+-- the index after the first vertex has taken slot 0
+pub ready_first : (first : Vertex) (work work₁ : List ℕ) (index : Index) → first.left < max_states → length first.counters ≡ max_states
+    → all_zero first.counters ≡ false → 0 < slot_count (length work) → work₁ ≡ with_slot work 0 first no_letter no_parent
+    → Classes work₁ index 1 → Ready work₁ index 1
+ready_first first work work₁ index small wide z h e K =
+    rw e
+    (ready_with_slot work 0 first no_letter no_parent h wide empty_index index (ready_none work _ (classes_begin work)) small z (rw e at K))
+
 module _ (A B : Automaton) (b : ℕ) (first : Vertex) (is : first ≡ initial_vertex A B b) (work : List ℕ) where
   abbrev slots : ℕ
   slots = slot_count (length work)
@@ -113,8 +121,6 @@ module _ (A B : Automaton) (b : ℕ) (first : Vertex) (is : first ≡ initial_ve
         (done work g.0 (subst (λ (x : List ℕ). Represents x (Ok 1) work (going g.0)) (sym e) g.2))
 
     -- the index after it
-    pub ready_first : (index : Index) → InRange A → Classes work₁ index 1 → Ready work₁ index 1
-    ready_first index R K =
-        rw e
-        (ready_with_slot work 0 first no_letter no_parent h first_wide empty_index index (ready_none work _ (classes_begin work))
-        (subst (λ (v : Vertex). v.left < max_states) (sym is) (initial_small A B b R)) z (rw e at K))
+    pub ready_initial : (index : Index) → InRange A → Classes work₁ index 1 → Ready work₁ index 1
+    ready_initial index R K =
+        ready_first first work work₁ index (subst (λ (v : Vertex). v.left < max_states) (sym is) (initial_small A B b R)) first_wide z h e K

@@ -13,7 +13,7 @@ use Rattle.graph.specs.Discovery.{Walk}
 use Rattle.discovery.specs.declared.Stop.{Stop}
 use Rattle.discovery.specs.Lists.{answered}
 use Rattle.discovery.specs.Representation.{Represents}
-use Rattle.walk.proofs.FirstVertices.{initial_small, ready_first, first_slot}
+use Rattle.walk.proofs.FirstVertices.{initial_small, ready_initial, first_slot}
 use Rattle.walk.proofs.walk_from.Goals as goal
 
 -- the buffer that is lent has the bytes of the list's
@@ -38,7 +38,7 @@ pub invariant_of-listed : goal.invariant_of-listed
 invariant_of-listed c =
     let a = c.args in
     let u = a.pair.now in record {
-      ready = ready_first u.rules.left.now u.rules.right.now u.bound.value a.first c.requires.0 a.work.now c.requires.1 c.requires.2 c.append.new.work
+      ready = ready_initial u.rules.left.now u.rules.right.now u.bound.value a.first c.requires.0 a.work.now c.requires.1 c.requires.2 c.append.new.work
           c.append.ensures.bytes c.append.new.self u.rules_of.in_range c.append.ensures.classes;
     }
 
