@@ -4,21 +4,24 @@ use mathlib.Core.Path.{◌≡◌, refl, sym, ◌∙◌, ap, ap₂}
 use mathlib.Core.Bool.{Bool, true, false, ◌||◌}
 use mathlib.Core.Logic.{◌⊎◌, inl, inr}
 use mathlib.Core.List.{List, [], ◌∷◌, ◌++◌, append-nil}
-use Prim.Native.Nat.{ℕ, ◌-◌, ◌/◌, ◌%◌, ◌^◌, ◌<◌}
+use Prim.Native.Nat.{ℕ, ◌+◌, ◌-◌, ◌/◌, ◌%◌, ◌^◌, ◌<◌}
+use native.Mathlib.Nat.{zero-add}
+use native.Mathlib.Numerals.{add-one}
 use native.Mathlib.Omega.{arith}
-use borrow.Rule.Slice.PartMut.{put_mid}
+use borrow.Rule.Slice.PartMut.{mid_of, put_mid}
 use borrow.Author.Tests.{eq-eqb, ne_eqb}
 use lib.Dec.{T, eqb, eqb→eq}
-use lib.ListN.{length, get_or, take, drop, length-append, length-drop, take-append-drop, drop_of_length-le, length-take}
-use lib.Seq.{take_all, take_at, drop_at, drop-drop, drop-cons, sets, sets-eq, length-sets}
+use lib.ListN.{length, get_or, set, take, drop, length-append, length-drop, take-append-drop, drop_of_length-le, length-take}
+use lib.Seq.{take_all, take_at, drop_at, drop-drop, drop-cons, sets, sets-eq, length-sets, paste, paste-suc}
 use mir.Val.{bool_byte}
 use Rattle.std.specs.Int.{from_le_bytes, to_le_bytes}
 use Rattle.std.proofs.Common.{w32}
 use Rattle.std.proofs.lemmas.Slice.{take-put_mid}
 use Rattle.automaton.specs.Automata.{one}
 use Rattle.automaton.proofs.Booleans.{or_cases, and_both, is_true}
+use Rattle.slots.proofs.SlotLayout.{part_back}
 use Rattle.history.specs.declared.Entry.{Entry}
-use Rattle.boundary.specs.Bytes.{entry_length, is_entry, number_of, entry_of, entry_bytes, FitsBytes, Sized}
+use Rattle.boundary.specs.Bytes.{entry_length, is_entry, number_of, entry_of, head_bytes, entry_bytes, FitsBytes, Sized}
 
 -- the length decides first, then byte 0
 pub other_length_no_entry : (s : List ℕ) → (length s ≡ entry_length → ⊥) → is_entry s ≡ false
@@ -137,6 +140,23 @@ bytes_of_entry s e small =
     )
     (nine_in_front s long)
 
+-- a loop that copies 2,048 bytes t to the front of d: a round, and the end
+pub copied_one_more : (d l t : List ℕ) (i x : ℕ) → l ≡ paste d 0 t i → i < length d → i < length t → x ≡ get_or t i 0
+    → set l i x ≡ paste d 0 t (i + 1)
+copied_one_more d l t i x e h k q =
+    rw (add-one, q)
+    (ap₂ (λ (y : List ℕ) (j : ℕ). set y j (get_or t i 0)) e (sym (zero-add i)) ∙ paste-suc d 0 t i 0 (omega arith) k)
+
+pub copied_all : (d l t : List ℕ) → l ≡ paste d 0 t 2048 → length t ≡ 2048 → l ≡ t ++ drop 2048 d
+copied_all d l t e n = e ∙ rw (take_all 2048 t (omega arith))
+
+-- over an array of their length: the part from byte 13 on of an entry's bytes
+pub copied_over : (s d l : List ℕ) → length s ≡ entry_length → length d ≡ 2048
+    → l ≡ take (length s - 13) (drop 13 s) ++ drop 2048 d → l ≡ take 2048 (drop 13 s)
+copied_over s d l h n e =
+    e ∙ ap₂ (λ (x y : List ℕ). x ++ y) (take_all (length s - 13) (drop 13 s) (simp length-drop (omega arith))) (drop_of_length-le d {i = 2048} (omega arith))
+    ∙ append-nil (drop 13 s) ∙ sym (transitions_behind s h)
+
 -- the entry that is put together from the parts of the bytes
 pub entry_read : (s : List ℕ) → length s ≡ entry_length → (n : ℕ) (e A t : List ℕ)
     → n ≡ from_le_bytes w32 e → e ≡ take 4 (drop 5 s) → A ≡ take 4 (drop 9 s) → t ≡ take (length s - 13) (drop 13 s)
@@ -183,11 +203,11 @@ abbrev pub five_bytes : ℕ → Entry → List ℕ
 five_bytes k E = k ∷ E.held.states ∷ E.held.letters ∷ E.held.initial ∷ E.first ∷ []
 
 -- after these stores, and when the edition's bytes and the two arrays are copied behind them
-pub entry_written : (E : Entry) (d e A t : List ℕ) (k : ℕ) → Sized E → FitsBytes E → length d ≡ entry_length
+pub entry_encoded : (E : Entry) (d e A t : List ℕ) (k : ℕ) → Sized E → FitsBytes E → length d ≡ entry_length
     → k ≡ bool_byte E.filled → e ≡ to_le_bytes w32 E.edition → A ≡ E.held.accepting → t ≡ E.held.transitions
     → (let o = put_mid 9 4 (put_mid 5 4 (sets d 0 (five_bytes k E)) e) A in put_mid 13 (length o - 13) o t ≡ entry_bytes E)
 unfolding entry_bytes
-entry_written E d e A t k sized fits long ek ee ea et =
+entry_encoded E d e A t k sized fits long ek ee ea et =
     let l : List ℕ = sets d 0 (five_bytes k E) in
     let n : length l ≡ entry_length = length-sets d 0 (five_bytes k E) ∙ long in
     let front : take 5 l ≡ five_bytes (one E.filled) E =
@@ -196,3 +216,38 @@ entry_written E d e A t k sized fits long ek ee ea et =
     ee ∙ edition_bytes E.edition fits.edition_fits in
     parts_written l e A t n (ap length ee) (ap length ea ∙ sized.accepting_long) (ap length et ∙ sized.transitions_long)
     ∙ rw (front, edition, ea, et)
+
+-- The same where all thirteen bytes in front are stored one by one.
+
+four_elements : (l : List ℕ) → length l ≡ 4 → l ≡ get_or l 0 0 ∷ get_or l 1 0 ∷ get_or l 2 0 ∷ get_or l 3 0 ∷ []
+four_elements l h =
+    drop-cons l 0 0 (omega arith)
+    ∙ rw (
+      drop-cons l 1 0 (omega arith),
+      drop-cons l 2 0 (omega arith),
+      drop-cons l 3 0 (omega arith),
+      drop_of_length-le l {i = 4} (omega arith),
+    )
+
+-- these bytes, the first of them k
+abbrev pub thirteen_bytes : ℕ → Entry → List ℕ
+thirteen_bytes k E =
+    k ∷ E.held.states ∷ E.held.letters ∷ E.held.initial ∷ E.first
+    ∷ E.edition % 2 ^ 8 ∷ E.edition / 2 ^ 8 % 2 ^ 8 ∷ E.edition / 2 ^ 16 % 2 ^ 8 ∷ E.edition / 2 ^ 24
+    ∷ get_or E.held.accepting 0 0 ∷ get_or E.held.accepting 1 0 ∷ get_or E.held.accepting 2 0 ∷ get_or E.held.accepting 3 0 ∷ []
+
+-- after these stores and the copy of the transitions behind them
+pub entry_written : (E : Entry) (d ys : List ℕ) (k : ℕ) → Sized E → length d ≡ entry_length → k ≡ one E.filled
+    → (let l = sets d 0 (thirteen_bytes k E) in ys ≡ E.held.transitions ++ drop 2048 (mid_of 13 (length l - 13) l)
+    → put_mid 13 (length l - 13) l ys ≡ entry_bytes E)
+unfolding entry_bytes
+entry_written E d ys k sized long e w =
+    let A : List ℕ = E.held.accepting in
+    let t : List ℕ = E.held.transitions in
+    let l : List ℕ = sets d 0 (thirteen_bytes k E) in
+    let n : length l ≡ entry_length = length-sets d 0 (thirteen_bytes k E) ∙ long in
+    let front : take 13 l ≡ head_bytes E ++ A = ap (take 13) (sets-eq (thirteen_bytes k E) d 0 (omega arith))
+    ∙ rw (e, ← four_elements A sized.accepting_long) in
+    part_back l 13 2048 t ys (omega arith) w
+    ∙ ap₂ (λ (x y : List ℕ). x ++ (t ++ y)) front (drop_of_length-le l {i = 2061} (omega arith))
+    ∙ ap (λ (x : List ℕ). (head_bytes E ++ A) ++ x) (append-nil t)
