@@ -1,14 +1,21 @@
 -- Numbers of any length, held as 1,000 at most: a larger value stays at 1,000 whatever digits follow. Assumes nothing.
 use mathlib.Core.Path.{◌≡◌, refl, sym, ap, ◌∙◌}
-use mathlib.Core.Bool.{Bool, true, false}
+use mathlib.Core.Bool.{Bool, true, false, ◌&&◌}
 use mathlib.Core.List.{List, [], ◌∷◌}
 use Prim.Native.Nat.{ℕ, suc, ◌+◌, ◌-◌, ◌*◌, ◌≤◌, ◌<◌, min}
 use native.Mathlib.Omega.{arith}
-use lib.Dec.{ltb}
+use lib.Dec.{ltb, leb}
 use lib.ListN.{length, get_or, drop, drop_of_length-le}
 use lib.Seq.{drop-cons}
-use borrow.Author.Tests.{ltb-true, ltb-false}
+use borrow.Author.Tests.{leb-true, ltb-true, ltb-false}
 use Rattle.tokens.specs.Tokens.{digit, value}
+
+pub digit_low : (b : ℕ) → digit b ≡ true → 0x30 ≤ b
+digit_low b e = leb-true 0x30 b (first (leb 0x30 b) (leb b 0x39) e)
+  where
+    first : (x y : Bool) → (x && y) ≡ true → x ≡ true
+    first true y h = refl
+    first false y h = h
 
 pub cap_value : (t : List ℕ) (v : ℕ) → min (value v t) 1000 ≡ min (value (min v 1000) t) 1000
 unfolding value
@@ -32,6 +39,10 @@ module _ (s : List ℕ) (j : ℕ) where
       ∙ ap (λ (c : Bool). elim c [ true ↦ value (10 * v + (get_or s j 0 - 0x30)) (drop (suc j) s) | false ↦ v ]) e
       ∙ ap (λ (n : ℕ). value (10 * v + (get_or s j 0 - 0x30)) (drop n s)) d
 
+  pub value_end : (v : ℕ) → length s ≤ j → value v (drop j s) ≡ v
+  unfolding value
+  value_end v h = ap (value v) (drop_of_length-le s h)
+
   pub value_stop : (v : ℕ) → digit (get_or s j 0) ≡ false → value v (drop j s) ≡ v
   unfolding value
   value_stop v e = by (ltb j (length s)) refl
@@ -40,7 +51,7 @@ module _ (s : List ℕ) (j : ℕ) where
       by true h =
           ap (value v) (drop-cons s j 0 (ltb-true j (length s) h))
           ∙ ap (λ (c : Bool). elim c [ true ↦ value (10 * v + (get_or s j 0 - 0x30)) (drop (suc j) s) | false ↦ v ]) e
-      by false h = ap (value v) (drop_of_length-le s (ltb-false j (length s) h))
+      by false h = value_end v (ltb-false j (length s) h)
 
 -- the loop over the digits: it ends with the whole value and number of them, or goes on with one digit more
 module _ (s : List ℕ) (v j : ℕ) (a : min (value 0 s) 1000 ≡ min (value v (drop j s)) 1000) where

@@ -111,6 +111,9 @@ skip_here s i e = sym ((white_run s i i).0 (run_ends e refl))
 pub skip_end : (s : List ℕ) (i : ℕ) → length s ≤ i → skip s i ≡ i
 skip_end s i h = skip_here s i (ap (λ (b : ℕ). white b) (byte_past s i h))
 
+pub skip_white : (s : List ℕ) (i : ℕ) → white (get_or s i 0) ≡ true → skip s i ≡ skip s (i + 1)
+skip_white s i e = sym ((white_run s i (skip s (i + 1))).0 (run_on e ((white_run s (i + 1) (skip s (i + 1))).1 refl)))
+
 pub skip_from : (s : List ℕ) (i : ℕ) → i ≤ skip s i
 unfolding skip
 skip_from s i = omega arith
@@ -126,11 +129,24 @@ skip_stops s i = run_stops ((white_run s i (skip s i)).1 refl)
 pub digits_here : (s : List ℕ) (i : ℕ) → digit (get_or s i 0) ≡ false → i + digits (drop i s) ≡ i
 digits_here s i e = sym ((digit_run s i i).0 (run_ends e refl))
 
+pub digits_end : (s : List ℕ) (i : ℕ) → length s ≤ i → i + digits (drop i s) ≡ i
+digits_end s i h = digits_here s i (ap (λ (b : ℕ). digit b) (byte_past s i h))
+
 pub digits_on : (s : List ℕ) (i : ℕ) → digit (get_or s i 0) ≡ true → i + digits (drop i s) ≡ i + 1 + digits (drop (i + 1) s)
 digits_on s i e =
     sym ((digit_run s i (i + 1 + digits (drop (i + 1) s))).0 (run_on e ((digit_run s (i + 1) (i + 1 + digits (drop (i + 1) s))).1 refl)))
 
--- and from there on none is passed
+pub name_here : (s : List ℕ) (i : ℕ) → name_byte (get_or s i 0) ≡ false → i + name_bytes (drop i s) ≡ i
+name_here s i e = sym ((name_run s i i).0 (run_ends e refl))
+
+pub name_on : (s : List ℕ) (i : ℕ) → name_byte (get_or s i 0) ≡ true → i + name_bytes (drop i s) ≡ i + 1 + name_bytes (drop (i + 1) s)
+name_on s i e =
+    sym ((name_run s i (i + 1 + name_bytes (drop (i + 1) s))).0 (run_on e ((name_run s (i + 1) (i + 1 + name_bytes (drop (i + 1) s))).1 refl)))
+
+pub name_end_lem : (s : List ℕ) (i : ℕ) → length s ≤ i → i + name_bytes (drop i s) ≡ i
+name_end_lem s i h = name_here s i (ap (λ (b : ℕ). name_byte b) (byte_past s i h))
+
+-- from where white space ends on none is passed
 pub skip_skip : (s : List ℕ) (i : ℕ) → skip s (skip s i) ≡ skip s i
 skip_skip s i = skip_here s (skip s i) (skip_stops s i)
 
