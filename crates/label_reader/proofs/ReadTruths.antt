@@ -1,12 +1,12 @@
 -- What one step of the label reader comes to, as the code answers: a chain between two turns of its loop, and the kinds of operands. A chain's fuel is a number
 -- of bytes that are left or more, so it is never used up. Assumes nothing.
-use mathlib.Core.Path.{◌≡◌, refl, sym, ap, ap₂, ◌∙◌}
+use mathlib.Core.Path.{◌≡◌, refl, sym, ap, ap₂, subst, ◌∙◌}
 use mathlib.Core.Bool.{Bool, true, false}
 use mathlib.Core.List.{List}
 use Prim.Native.Nat.{ℕ, zero, suc, ◌+◌, ◌-◌, ◌≤◌, ◌<◌, min}
 use native.Mathlib.Nat.{add-zero}
 use native.Mathlib.Omega.{arith}
-use lib.Bits.{bit_and, bit_or}
+use lib.Bits.{bit_and, bit_or, and_lt, or_lt}
 use lib.ListN.{length, get_or}
 use borrow.Author.Tests.{eq-eqb, ne_eqb, lt-ltb, le-ltb}
 use Rattle.std.specs.Prelude.{Some, None}
@@ -47,7 +47,93 @@ found_answer L m j e =
     let held : ℕ → ℕ × ℕ = λ n. (n, j) in
     ap (λ n. Some (held n)) e
 
--- Chains: what joins two labels, its byte, and what it joins, where f reads an operand.
+-- Chains of what `operand` reads, joined behind each byte `mark`.
+
+module _ (s : List ℕ) (mark : ℕ) (join : Label → Label → Label) (operand : ℕ → Found) where
+  abbrev more_of : ℕ → Label → ℕ → Found
+  more_of = more s mark join operand
+
+  -- between two turns: a label of the truth m ends at place j, and what follows from there comes to `whole`
+  pub record Chained (whole : Found) (m j : ℕ) : Type 0 where
+    pub fuel : ℕ
+    pub label : Label
+    pub mask : m ≡ mask_of label
+    pub enough : length s ≤ j + fuel
+    pub onward : more_of fuel label j ≡ whole
+
+  first_of : Found → Found
+  first_of x = elim x [ absent ↦ absent | found L k ↦ more_of (length s) L k ]
+
+  pub chain_starts : (i m j : ℕ) → Some (m, j) ≡ answer_of (operand i) → Chained (chain s mark join operand i) m j
+  unfolding first_of
+  chain_starts i m j e =
+      let r = answer_some (operand i) m j e in
+      record { fuel = length s; label = r.label; mask = r.mask; enough = omega arith; onward = sym (ap first_of r.read) }
+
+  pub chain_absent : (i : ℕ) → None ≡ answer_of (operand i) → None ≡ answer_of (chain s mark join operand i)
+  unfolding answer_of first_of
+  chain_absent i e = sym (ap answer_of (ap first_of (answer_none (operand i) e)))
+
+  pub chain_ends : (whole : Found) (m j : ℕ) → Chained whole m j → (byte_at s (skip s j) ≡ mark → ⊥) → Some (m, j) ≡ answer_of whole
+  unfolding more
+  chain_ends whole m j c n = found_answer c.label m j c.mask ∙ ap answer_of (sym (stops c.fuel) ∙ c.onward)
+    where
+      stops : (k : ℕ) → more_of k c.label j ≡ found c.label j
+      stops zero = refl
+      stops (suc k) =
+          ap (λ (b : Bool). elim b [
+            | true ↦ elim (operand (skip s j + 1)) [ absent ↦ absent | found M i ↦ more_of k (join c.label M) i ]
+            | false ↦ found c.label j
+          ]) (ne_eqb (byte_at s (skip s j)) mark n)
+
+  module _ (whole : Found) (m j : ℕ) (c : Chained whole m j) where
+    -- one operand more: what follows from behind it comes to the whole, or there is none and the whole is absent
+    after : ℕ → Found → Found
+    after n x = elim x [ absent ↦ absent | found M i ↦ more_of n (join c.label M) i ]
+
+    record Turned : Type 0 where
+      left : ℕ
+      room : length s < j + suc left + 1
+      turn : after left (operand (skip s j + 1)) ≡ whole
+
+    turned : byte_at s (skip s j) ≡ mark → (mark ≡ 0 → ⊥) → Turned
+    unfolding more after
+    turned e z = go c.fuel c.enough c.onward
+      where
+        go : (k : ℕ) → length s ≤ j + k → more_of k c.label j ≡ whole → Turned
+        go zero h x =
+            let past : length s ≤ j = omega (arith, h, add-zero j) in
+            absurd (z (sym e ∙ ap (λ (i : ℕ). get_or s i 0) (skip_end s j past) ∙ byte_past s j past))
+        go (suc k) h x =
+            record {
+              left = k;
+              room = omega arith;
+              turn =
+                  sym (ap (λ (b : Bool). elim b [
+                    | true ↦ elim (operand (skip s j + 1)) [ absent ↦ absent | found M i ↦ more_of k (join c.label M) i ]
+                    | false ↦ found c.label j
+                  ]) (eq-eqb (byte_at s (skip s j)) mark e)) ∙ x;
+            }
+
+    pub chain_breaks : byte_at s (skip s j) ≡ mark → (mark ≡ 0 → ⊥) → None ≡ answer_of (operand (skip s j + 1)) → None ≡ answer_of whole
+    unfolding answer_of after
+    chain_breaks e z b = let r = turned e z in sym (ap answer_of (sym r.turn ∙ ap (after r.left) (answer_none _ b)))
+
+    pub chain_goes_on : (op : ℕ → ℕ → ℕ) → ((L M : Label) → mask_of (join L M) ≡ op (mask_of L) (mask_of M)) → byte_at s (skip s j) ≡ mark
+        → (mark ≡ 0 → ⊥) → (p k : ℕ) → Some (p, k) ≡ answer_of (operand (skip s j + 1)) → j < k → Chained whole (op m p) k
+    unfolding after
+    chain_goes_on op law e z p k b h =
+        let r = turned e z in
+        let y = answer_some (operand (skip s j + 1)) p k b in
+        record {
+          fuel = r.left;
+          label = join c.label y.label;
+          mask = ap₂ op c.mask y.mask ∙ sym (law c.label y.label);
+          enough = omega (arith, r.room);
+          onward = sym (ap (after r.left) y.read) ∙ r.turn;
+        }
+
+-- What joins two labels, its byte, and what it joins, where f reads an operand.
 
 pub data Operator : Type 0 where
   And : Operator
@@ -77,109 +163,28 @@ mark_some : (o : Operator) → mark_of o ≡ 0 → ⊥
 mark_some And e = omega (arith, e)
 mark_some Or e = omega (arith, e)
 
-mask_joined : (o : Operator) (L M : Label) → mask_of (joined o L M) ≡ joined_mask o (mask_of L) (mask_of M)
+pub mask_both : (L M : Label) → mask_of (both L M) ≡ bit_and (mask_of L) (mask_of M)
 unfolding mask_of
-mask_joined And L M = refl
-mask_joined Or L M = refl
+mask_both L M = refl
+
+pub mask_either : (L M : Label) → mask_of (either L M) ≡ bit_or (mask_of L) (mask_of M)
+unfolding mask_of
+mask_either L M = refl
+
+mask_joined : (o : Operator) (L M : Label) → mask_of (joined o L M) ≡ joined_mask o (mask_of L) (mask_of M)
+mask_joined And L M = mask_both L M
+mask_joined Or L M = mask_either L M
+
+pub and_narrow : (x y : ℕ) → x < 65536 → y < 65536 → bit_and x y < 65536
+and_narrow x y a b = and_lt 16 x y a b
+
+pub or_narrow : (x y : ℕ) → x < 65536 → y < 65536 → bit_or x y < 65536
+or_narrow x y a b = or_lt 16 x y a b
 
 chain_is : (o : Operator) (s : List ℕ) (f : ℕ → Found) (i : ℕ) → chain s (mark_of o) (joined o) (part_of o s f) i ≡ chain_of o s f i
 unfolding conjunction disjunction
 chain_is And s f i = refl
 chain_is Or s f i = refl
-
-module _ (s : List ℕ) (o : Operator) (f : ℕ → Found) where
-  abbrev more_of : ℕ → Label → ℕ → Found
-  more_of = more s (mark_of o) (joined o) (part_of o s f)
-
-  -- between two turns: a label of the truth m ends at place j, and what follows from there comes to `whole`
-  record Chained (whole : Found) (m j : ℕ) : Type 0 where
-    pub fuel : ℕ
-    pub label : Label
-    pub mask : m ≡ mask_of label
-    pub enough : length s ≤ j + fuel
-    pub onward : more_of fuel label j ≡ whole
-
-  first_of : Found → Found
-  first_of x = elim x [ absent ↦ absent | found L k ↦ more_of (length s) L k ]
-
-  started : (i m j : ℕ) → Some (m, j) ≡ answer_of (part_of o s f i) → Chained (chain_of o s f i) m j
-  unfolding first_of
-  started i m j e =
-      let r = answer_some (part_of o s f i) m j e in
-      record {
-        fuel = length s;
-        label = r.label;
-        mask = r.mask;
-        enough = omega arith;
-        onward = sym (ap first_of r.read) ∙ chain_is o s f i;
-      }
-
-  unstarted : (i : ℕ) → None ≡ answer_of (part_of o s f i) → None ≡ answer_of (chain_of o s f i)
-  unfolding answer_of first_of
-  unstarted i e = sym (ap answer_of (sym (chain_is o s f i) ∙ ap first_of (answer_none (part_of o s f i) e)))
-
-  module _ (whole : Found) (m j : ℕ) (c : Chained whole m j) where
-    ended : None ≡ mark_at (mark_of o) s j → Some (m, j) ≡ answer_of whole
-    unfolding more
-    ended n = found_answer c.label m j c.mask ∙ ap answer_of (sym (stops c.fuel) ∙ c.onward)
-      where
-        stops : (k : ℕ) → more_of k c.label j ≡ found c.label j
-        stops zero = refl
-        stops (suc k) =
-            ap (λ (b : Bool). elim b [
-              | true ↦ elim (part_of o s f (skip s j + 1)) [ absent ↦ absent | found M i ↦ more_of k (joined o c.label M) i ]
-              | false ↦ found c.label j
-            ]) (ne_eqb (byte_at s (skip s j)) (mark_of o) (byte_missed (mark_of o) s (skip s j) n))
-
-    -- one part more: what follows from behind it comes to the whole, or there is none and the whole is absent
-    after : ℕ → Found → Found
-    after n x = elim x [ absent ↦ absent | found M i ↦ more_of n (joined o c.label M) i ]
-
-    record Turned (l : ℕ) : Type 0 where
-      left : ℕ
-      room : length s < j + suc left + 1
-      turn : after left (part_of o s f l) ≡ whole
-
-    module _ (l : ℕ) (e : Some l ≡ mark_at (mark_of o) s j) where
-      turned : Turned l
-      unfolding more after
-      turned = go c.fuel c.enough c.onward
-        where
-          t : (byte_at s (skip s j) ≡ mark_of o) × (l ≡ skip s j + 1)
-          t = byte_taken (mark_of o) s (skip s j) l e
-
-          go : (k : ℕ) → length s ≤ j + k → more_of k c.label j ≡ whole → Turned l
-          go zero h x =
-              let past : length s ≤ j = omega (arith, h, add-zero j) in
-              absurd (mark_some o (sym t.0 ∙ ap (λ (i : ℕ). get_or s i 0) (skip_end s j past) ∙ byte_past s j past))
-          go (suc k) h x =
-              record {
-                left = k;
-                room = omega arith;
-                turn =
-                    ap (λ i. after k (part_of o s f i)) t.1
-                    ∙ sym (ap (λ (b : Bool). elim b [
-                      | true ↦ elim (part_of o s f (skip s j + 1)) [ absent ↦ absent | found M i ↦ more_of k (joined o c.label M) i ]
-                      | false ↦ found c.label j
-                    ]) (eq-eqb (byte_at s (skip s j)) (mark_of o) t.0)) ∙ x;
-              }
-
-      broken : None ≡ answer_of (part_of o s f l) → None ≡ answer_of whole
-      unfolding answer_of after
-      broken b = let r = turned in sym (ap answer_of (sym r.turn ∙ ap (after r.left) (answer_none _ b)))
-
-      further : (n k : ℕ) → Some (n, k) ≡ answer_of (part_of o s f l) → j < k → Chained whole (joined_mask o m n) k
-      unfolding after
-      further n k b h =
-          let r = turned in
-          let y = answer_some (part_of o s f l) n k b in
-          record {
-            fuel = r.left;
-            label = joined o c.label y.label;
-            mask = ap₂ (joined_mask o) c.mask y.mask ∙ sym (mask_joined o c.label y.label);
-            enough = omega (arith, r.room);
-            onward = sym (ap (after r.left) y.read) ∙ r.turn;
-          }
 
 -- A chain that begins at the scanner x, of operands in which d more may open: between two turns the scanner is y, and the truth so far m.
 
@@ -191,36 +196,52 @@ module _ (o : Operator) (k d : ℕ) (x : Scanner) where
   abbrev part_here : Scanner → Found
   part_here y = part_of o y.text.now (operand_of y) y.at
 
+  abbrev parts : ℕ → Found
+  parts = part_of o x.text.now (operand_of x)
+
   abbrev whole_here : Found
   whole_here = chain_of o x.text.now (operand_of x) x.at
 
+  abbrev ChainedHere : Found → ℕ → ℕ → Type 0
+  ChainedHere = Chained x.text.now (mark_of o) (joined o) parts
+
   pub record Chaining (m : ℕ) (y : Scanner) : Type 0 where
-    chained : Chained x.text.now o (operand_of x) whole_here m y.at
+    chained : ChainedHere whole_here m y.at
     pub moved : Ahead 1 x y
 
-  pub chain_absent : None ≡ answer_of (part_here x) → None ≡ answer_of whole_here
-  chain_absent e = unstarted x.text.now o (operand_of x) x.at e
+  pub chaining_absent : None ≡ answer_of (part_here x) → None ≡ answer_of whole_here
+  chaining_absent e = chain_absent x.text.now (mark_of o) (joined o) parts x.at e ∙ ap answer_of (chain_is o x.text.now (operand_of x) x.at)
 
-  pub chain_starts : (m : ℕ) (y : Scanner) → Some (m, y.at) ≡ answer_of (part_here x) → Ahead 1 x y → Chaining m y
-  chain_starts m y e a = record { chained = started x.text.now o (operand_of x) x.at m y.at e; moved = a }
+  pub chaining_starts : (m : ℕ) (y : Scanner) → Some (m, y.at) ≡ answer_of (part_here x) → Ahead 1 x y → Chaining m y
+  chaining_starts m y e a =
+      record {
+        chained = subst (λ (w : Found). ChainedHere w m y.at) (chain_is o x.text.now (operand_of x) x.at)
+            (chain_starts x.text.now (mark_of o) (joined o) parts x.at m y.at e);
+        moved = a;
+      }
 
   module _ (m : ℕ) (y : Scanner) (c : Chaining m y) (z : Scanner) where
-    pub chain_ends : None ≡ mark_at (mark_of o) y.text.now y.at → Moved false 1 y z → Some (m, z.at) ≡ answer_of whole_here
-    chain_ends e a = rw (a.stays refl) (ended x.text.now o (operand_of x) whole_here m y.at c.chained (rw (← c.moved.text) e))
+    pub chaining_ends : None ≡ mark_at (mark_of o) y.text.now y.at → Moved false 1 y z → Some (m, z.at) ≡ answer_of whole_here
+    chaining_ends e a =
+        rw (a.stays refl)
+        (chain_ends x.text.now (mark_of o) (joined o) parts whole_here m y.at c.chained
+        (byte_missed (mark_of o) x.text.now (skip x.text.now y.at) (rw (← c.moved.text) e)))
 
     module _ (e : Some z.at ≡ mark_at (mark_of o) y.text.now y.at) (a : Moved true 1 y z) where
-      mark_here : Some z.at ≡ mark_at (mark_of o) x.text.now y.at
-      mark_here = rw (← c.moved.text) e
+      mark_here : (byte_at x.text.now (skip x.text.now y.at) ≡ mark_of o) × (z.at ≡ skip x.text.now y.at + 1)
+      mark_here = byte_taken (mark_of o) x.text.now (skip x.text.now y.at) z.at (rw (← c.moved.text) e)
 
-      pub chain_breaks : None ≡ answer_of (part_here z) → None ≡ answer_of whole_here
-      chain_breaks b =
-          broken x.text.now o (operand_of x) whole_here m y.at c.chained z.at mark_here (rw (← c.moved.text, ← a.text) b)
+      pub chaining_breaks : None ≡ answer_of (part_here z) → None ≡ answer_of whole_here
+      chaining_breaks b =
+          chain_breaks x.text.now (mark_of o) (joined o) parts whole_here m y.at c.chained mark_here.0 (mark_some o)
+          (subst (λ (n : ℕ). None ≡ answer_of (parts n)) mark_here.1 (rw (← c.moved.text, ← a.text) b))
 
-      pub chain_goes_on : (n : ℕ) (w : Scanner) → Some (n, w.at) ≡ answer_of (part_here z) → Ahead 1 z w → Chaining (joined_mask o m n) w
-      chain_goes_on n w b h =
+      pub chaining_goes_on : (n : ℕ) (w : Scanner) → Some (n, w.at) ≡ answer_of (part_here z) → Ahead 1 z w → Chaining (joined_mask o m n) w
+      chaining_goes_on n w b h =
           record {
             chained =
-                further x.text.now o (operand_of x) whole_here m y.at c.chained z.at mark_here n w.at (rw (← c.moved.text, ← a.text) b)
+                chain_goes_on x.text.now (mark_of o) (joined o) parts whole_here m y.at c.chained (joined_mask o) (mask_joined o) mark_here.0
+                (mark_some o) n w.at (subst (λ (i : ℕ). Some (n, w.at) ≡ answer_of (parts i)) mark_here.1 (rw (← c.moved.text, ← a.text) b))
                 (omega (arith, a.forward, h.forward));
             moved = record { text = h.text ∙ a.text ∙ c.moved.text; forward = omega (arith, c.moved.forward, a.forward, h.forward) };
           }
@@ -284,7 +305,7 @@ pub ruleset paren_steps = (closed_none, closed_some, unclosed)
 -- Propositions, of a number x that the code holds.
 
 module _ (k : ℕ) (x : Number) where
-  proposition_missing : None ≡ capped x → None ≡ answer_of (proposition_of k x)
+  pub proposition_missing : None ≡ capped x → None ≡ answer_of (proposition_of k x)
   unfolding answer_of
   proposition_missing = by x
     where
@@ -293,7 +314,7 @@ module _ (k : ℕ) (x : Number) where
       by (number v j) e = absurd (none-some _ e)
 
   module _ (few : k ≤ 4) (p j : ℕ) (e : Some (p, j) ≡ capped x) where
-    proposition_known : p < k → Some (proposition_mask p, j) ≡ answer_of (proposition_of k x)
+    pub proposition_known : p < k → Some (proposition_mask p, j) ≡ answer_of (proposition_of k x)
     unfolding mask_of
     proposition_known l = by x e
       where
@@ -305,7 +326,7 @@ module _ (k : ℕ) (x : Number) where
             let q : v ≡ p = omega (arith, a, l, few) in
             rw (lt-ltb v k (omega (arith, q, l)), ← ap (λ c. c.1) h) (found_answer (proposition v) _ j (ap proposition_mask (sym q)))
 
-    proposition_lacking : k ≤ p → None ≡ answer_of (proposition_of k x)
+    pub proposition_lacking : k ≤ p → None ≡ answer_of (proposition_of k x)
     unfolding answer_of
     proposition_lacking l = by x e
       where
