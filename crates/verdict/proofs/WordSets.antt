@@ -3,7 +3,7 @@
 use mathlib.Core.Path.{◌≡◌, refl, sym, ap, ap₂, subst, ◌∙◌}
 use mathlib.Core.Bool.{Bool, true, false, ◌&&◌, ◌||◌}
 use mathlib.Core.List.{List, [], ◌∷◌}
-use Prim.Native.Nat.{ℕ, ◌+◌, ◌*◌, ◌≤◌, ◌<◌}
+use Prim.Native.Nat.{ℕ, ◌+◌, ◌*◌, ◌-◌, ◌≤◌, ◌<◌}
 use native.Mathlib.Numerals.{add-one}
 use native.Mathlib.Omega.{arith}
 use lib.Dec.{T, eqb}
@@ -12,6 +12,8 @@ use lib.Seq.{drop-cons, drop-length}
 use borrow.Author.Tests.{ne_eqb}
 use Rattle.std.specs.Prelude.{replicate}
 use Rattle.std.proofs.lemmas.List.{get_or-replicate}
+use Rattle.std.proofs.Math.Logic.{∥∥₁_elim}
+use Rattle.std.proofs.Props.{props}
 use Rattle.automaton.specs.declared.Automaton.{Automaton}
 use Rattle.automaton.specs.Ranges.{some}
 use Rattle.automaton.specs.Sets.{bit}
@@ -68,10 +70,6 @@ module _ (A : Automaton) where
       (λ t. let s = some_below (leads_to w a q) A.states t in
       subst T (no_letter_lem s.0 a q l) (and_both (bit w s.0) (transition A s.0 a q) s.2).1)))
 
-  pub letter_held : (w a r : ℕ) (tables : List (List ℕ)) → HeldUnions A tables → a < A.letters
-      → ((q : ℕ) → bit r q ≡ named (get_or tables a []) (groups_for A.states) w q) → set_of A.states r ≡ on_letter A (set_of A.states w) a
-  letter_held w a r tables held l e = letter_same w a r (λ q hq. e q ∙ held a w q l hq)
-
   module _ (r : InRange A) where
     groups : (groups_for A.states ≤ 8) × (A.states ≤ groups_for A.states * 4)
     groups = let few = r.few_states in groups_enough A.states (omega arith)
@@ -115,13 +113,13 @@ module _ (A : Automaton) where
 
     -- One letter in front of the loop word.
 
-    pub pairs_begin : (pairs : List ℕ) → ((p q : ℕ) → p < 32 → row_has pairs p q ≡ eqb p q) → PairsOf A [] pairs
+    pub pairs_begin : (pairs : List ℕ) → ((p q : ℕ) → p < A.states → row_has pairs p q ≡ eqb p q) → PairsOf A [] pairs
     unfolding loop_runs loop_visits
     pairs_begin pairs e =
         let few = r.few_states in
         record {
-          runs = λ p q hp hq. e p q (omega arith) ∙ sym (related_relation A.states eqb p q hp hq);
-          visits = λ p q hp hq. e p (32 + q) (omega arith) ∙ ne_eqb p (32 + q) (λ z. omega arith)
+          runs = λ p q hp hq. e p q hp ∙ sym (related_relation A.states eqb p q hp hq);
+          visits = λ p q hp hq. e p (32 + q) hp ∙ ne_eqb p (32 + q) (λ z. omega arith)
               ∙ sym (related_relation A.states (λ x y. false) p q hp hq);
         }
 
@@ -147,10 +145,24 @@ module _ (A : Automaton) where
         visit : ℕ → ℕ → ℕ → Bool
         visit p q x = transition A p a x && (related (loop_visits A v) x q || (accepts A x && related (loop_runs A v) x q))
 
+-- One letter of the stem, by a table that is held for it.
+module _ (A : Automaton) where
+  pub letter_held : (w a r : ℕ) (tables : List (List ℕ)) → HeldUnions A tables → a < A.letters
+      → ((q : ℕ) → bit r q ≡ named (get_or tables a []) (groups_for A.states) w q) → set_of A.states r ≡ on_letter A (set_of A.states w) a
+  letter_held w a r tables held l e =
+      letter_same A w a r (λ q hq. e q ∙ ∥∥₁_elim (held.letter a l) (search props)
+      (λ u. letter_named A held.in_range a l (get_or tables a []) u.rows u.unions
+      (λ p x hp hx. u.targets p x hp hx ∙ sym (bit_of_transition A held.in_range p a x hp l hx)) w q hq))
+
 -- A word, letter by letter.
 
 drop_step : (w : List ℕ) (i : ℕ) → i < length w → get_or w i 0 ∷ drop (i + 1) w ≡ drop i w
 drop_step w i h = rw (add-one i, drop-cons w i 0)
+
+pub drop_back : (w : List ℕ) (i : ℕ) → 0 < i → i ≤ length w → get_or w (i - 1) 0 ∷ drop i w ≡ drop (i - 1) w
+drop_back w i h l =
+    let e : i ≡ i - 1 + 1 = omega arith in
+    ap (λ (k : ℕ). get_or w (i - 1) 0 ∷ drop k w) e ∙ drop_step w (i - 1) (omega arith)
 
 pub drop_end : (w : List ℕ) (i : ℕ) → i ≡ length w → drop i w ≡ []
 drop_end w i e = ap (λ (k : ℕ). drop k w) e ∙ drop-length w

@@ -10,16 +10,17 @@ use lib.Dec.{T, eqb, eqb→eq, eqb_refl}
 use borrow.Author.Tests.{lt-ltb}
 use Rattle.automaton.specs.declared.Automaton.{Automaton}
 use Rattle.automaton.specs.Ranges.{some}
-use Rattle.automaton.specs.Sets.{bit, member}
+use Rattle.automaton.specs.Sets.{bit, with_bit, member}
 use Rattle.automaton.specs.Automata.{accepts}
 use Rattle.relations.specs.Closure.{related, relation, closure, reaches, row_has}
 use Rattle.lassos.specs.Verdict.{in_set, only, on_word, loop_runs, loop_visits, accepted}
 use Rattle.verdict.specs.Words.{set_of, returns_from}
 use Rattle.automaton.proofs.Booleans.{and_both, both_and, same_test}
 use Rattle.automaton.proofs.Ranges.{table_at, some_at, some_below}
-use Rattle.automaton.proofs.Bits.{bit_power}
+use Rattle.automaton.proofs.Bits.{bit_zero, bit_with, bit_power}
 use Rattle.relations.proofs.Closure.{related_relation}
 use Rattle.relations.proofs.Rows.{table_same, some_same}
+use Rattle.verdict.proofs.HalfWords.{low_half}
 
 -- Two searches.
 
@@ -53,15 +54,23 @@ eqb_swapped a b =
     (λ t. subst (λ (x : ℕ). T (eqb x a)) (eqb→eq a b t) (eqb_refl a))
     (λ t. subst (λ (x : ℕ). T (eqb x b)) (eqb→eq b a t) (eqb_refl b))
 
--- the word 1 shifted by p has bit p alone
-pub alone : (p q : ℕ) → p < 64 → bit (1 * 2 ^ p % 18446744073709551616) q ≡ eqb p q
-alone p q h =
+-- the word with bit p alone
+pub alone : (p q : ℕ) → bit (with_bit 0 p) q ≡ eqb p q
+alone p q = bit_with 0 p q ∙ ap (λ (b : Bool). b || eqb p q) (bit_zero q)
+
+-- so is the word 1 shifted by p
+pub shifted_alone : (p q : ℕ) → p < 64 → bit (1 * 2 ^ p % 18446744073709551616) q ≡ eqb p q
+shifted_alone p q h =
     let l : 2 ^ p ≤ 2 ^ 63 = pow-le-pow_right (omega arith) {i = p} {j = 63} (omega arith) in
     ap (λ (w : ℕ). bit w q) (ap (λ (x : ℕ). x % 18446744073709551616) (one-mul _) ∙ mod-eq_of_lt (omega arith)) ∙ bit_power p q
 
 -- words with the same states below n are the same set
 pub set_same : (n r w : ℕ) → n ≤ 32 → ((q : ℕ) → q < 32 → bit r q ≡ bit w q) → set_of n r ≡ set_of n w
 set_same n r w few e = table_same (bit r) (bit w) n (λ q h. e q (omega arith))
+
+-- the low half of a word has the states below 32
+pub low_set : (n w : ℕ) → n ≤ 32 → set_of n (w % 4294967296) ≡ set_of n w
+low_set n w few = set_same n (w % 4294967296) w few (low_half w)
 
 -- Relations of n states.
 

@@ -1,7 +1,8 @@
 -- How the code holds what the verdict computes with (01, "Verdict"); only contracts between functions name it. Sets of states are words. A pair
 -- of a state has the ends of its runs on a word in bits 0 to 31, and those of its visits in bits 32 to 63.
 --   set_of n w             the set of the states below n that the word w has
---   HeldUnions A tables    for each letter of A, the entries of its table that a word names have together where transitions on the letter lead
+--   HeldLetter A a t       the table t has the unions of the choices of the rows of the targets on letter a
+--   HeldUnions A tables    A is in range, and each of its letters has its table so
 --   Met A pairs pairs'     pairs' are the pairs with every run of an accepting state a visit besides
 --   PairsOf A v pairs      pairs are the pairs of the states for the word v
 --   comes_back n runs visits r       the rows visits lead from r to some state that the rows runs lead back to r from
@@ -11,18 +12,22 @@ use Rattle.std.specs.Prelude.{◌≡◌, Bool, ◌&&◌, ◌||◌, List, [], ℕ
 use Rattle.automaton.specs.declared.Automaton.{Automaton}
 use Rattle.automaton.specs.Ranges.{some, table}
 use Rattle.automaton.specs.Sets.{bit}
-use Rattle.automaton.specs.Automata.{accepts, transition}
+use Rattle.automaton.specs.Automata.{accepts, transition, InRange}
 use Rattle.relations.specs.Closure.{related, row_has}
 use Rattle.lassos.specs.Verdict.{loop_runs, loop_visits}
-use Rattle.unions.specs.Unions.{named, groups_for}
+use Rattle.unions.specs.Unions.{Unions, groups_for}
 
 abbrev pub set_of : ℕ → ℕ → List Bool
 set_of n w = table (bit w) n 0
 
-abbrev pub HeldUnions : Automaton → List (List ℕ) → Type 0
-HeldUnions A tables =
-    (a w q : ℕ) → a < A.letters → q < A.states
-    → named (get_or tables a []) (groups_for A.states) w q ≡ some (λ p. bit w p && transition A p a q) A.states 0
+pub record HeldLetter (A : Automaton) (a : ℕ) (entries : List ℕ) : Type 0 where
+  pub rows : List ℕ
+  pub targets : (p q : ℕ) → p < 32 → q < 32 → row_has rows p q ≡ transition A p a q
+  pub unions : Unions entries rows (groups_for A.states)
+
+pub record HeldUnions (A : Automaton) (tables : List (List ℕ)) : Type 0 where
+  pub in_range : InRange A
+  pub letter : (a : ℕ) → a < A.letters → ∥ HeldLetter A a (get_or tables a []) ∥₁
 
 pub record Met (A : Automaton) (pairs pairs' : List ℕ) : Type 0 where
   pub runs : (t q : ℕ) → t < A.states → q < 32 → row_has pairs' t q ≡ row_has pairs t q

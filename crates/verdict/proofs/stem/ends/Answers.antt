@@ -4,7 +4,7 @@ use mathlib.Core.Bool.{Bool}
 use mathlib.Core.List.{List}
 use native.Mathlib.Omega.{arith}
 use Rattle.lassos.specs.Verdict.{on_word}
-use Rattle.verdict.proofs.WordVerdict.{alone, only_set, set_same}
+use Rattle.verdict.proofs.WordVerdict.{shifted_alone, only_set, set_same}
 use Rattle.verdict.proofs.stem.ends.Goals as goal
 
 pub returns : goal.returns
@@ -15,4 +15,4 @@ returns c =
     let below = r.initial_below in
     set_same A.states c.low.result c.on_word.result few c.low.ensures
     ∙ c.on_word.ensures
-    ∙ ap (λ (S : List Bool). on_word A S c.args.stem.now) (only_set A A.initial _ (λ q. alone A.initial q (omega arith)))
+    ∙ ap (λ (S : List Bool). on_word A S c.args.stem.now) (only_set A A.initial _ (λ q. shifted_alone A.initial q (omega arith)))
