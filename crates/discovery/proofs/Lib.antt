@@ -1,4 +1,5 @@
--- Laws of the represented walk, and of the loops that go on with it.
+-- Laws of the represented walk, of the loops that go on with it, and of the states of a word taken out one after another.
+pub mod LeastStates
 pub mod RepresentedSlots
 pub mod FinalVertices
 pub mod FoldLoops

@@ -29,10 +29,10 @@ use Rattle.file.proofs.LeftAutomata.{left_after, left_file, left_over, left_next
 -- The step of a record that was read.
 
 -- what a record came to, with B left of A
-taken : {x : Step} (p : Result (Option ℕ) FileRefusal) {A B : Automaton} → x ≡ progress_step p B → automaton_after (progress_step p B) A ≡ B → RecordTaken x p A B
+pub taken : {x : Step} (p : Result (Option ℕ) FileRefusal) {A B : Automaton} → x ≡ progress_step p B → automaton_after (progress_step p B) A ≡ B → RecordTaken x p A B
 taken p {A} e l = record { step = e; after = sym (ap (λ y. automaton_after y A) e ∙ l) }
 
-record_taken : (s : List ℕ) (i : ℕ) (A : Automaton) (x y : Result Record FileRefusal) {p : Result (Option ℕ) FileRefusal} {B : Automaton} → x ≡ record_in s i → x ≡ y
+pub record_taken : (s : List ℕ) (i : ℕ) (A : Automaton) (x y : Result Record FileRefusal) {p : Result (Option ℕ) FileRefusal} {B : Automaton} → x ≡ record_in s i → x ≡ y
     → RecordTaken (takes y A) p A B → RecordTaken (record_at s i A) p A B
 record_taken s i A x y {p} {B} d e h = subst (λ (z : Result Record FileRefusal). RecordTaken (takes z A) p A B) (sym e ∙ d) h
 

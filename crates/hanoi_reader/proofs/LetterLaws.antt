@@ -13,7 +13,7 @@ use Rattle.hanoi.specs.Meaning.{with_letters}
 use Rattle.hanoi_reader.specs.Taking.{with_mask}
 
 module _ (A : Automaton) (q m r n a : ℕ) where
-  next_letter : (x : Bool) → bit m a ≡ x → a < n
+  pub next_letter : (x : Bool) → bit m a ≡ x → a < n
       → with_mask A q m r (n - a) a ≡ with_mask (elim x [ true ↦ with_transition A q a r | false ↦ A ]) q m r (n - (a + 1)) (a + 1)
   unfolding with_mask
   next_letter x b h =

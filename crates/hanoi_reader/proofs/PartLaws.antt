@@ -215,13 +215,13 @@ module _ (s : List ℕ) (i j : ℕ) (here : j ≡ skip s i) (D : Description) wh
   ended_part l e = let t = token_taken END s i l (e ∙ token_here END) in rw (part_at, t.0, t.1) refl
 
   module _ (e : None ≡ token_at END s j) where
-    state_part : (l : ℕ) → Some l ≡ token_at State s j → part_at s i D ≡ state_at s l D
+    pub state_part : (l : ℕ) → Some l ≡ token_at State s j → part_at s i D ≡ state_at s l D
     unfolding part_at
     state_part l f =
         let t = token_taken State s i l (f ∙ token_here State) in
         rw (part_at, token_missed END s i (e ∙ token_here END), t.0, t.1) refl
 
-    edge_part : None ≡ token_at State s j → part_at s i D ≡ expect left_bracket s j (λ l. edge_of s l D.parts D)
+    pub edge_part : None ≡ token_at State s j → part_at s i D ≡ expect left_bracket s j (λ l. edge_of s l D.parts D)
     unfolding part_at expect
     edge_part f =
         let a = token_missed END s i (e ∙ token_here END) in

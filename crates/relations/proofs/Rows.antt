@@ -160,7 +160,7 @@ byte_more b w bs h e q = go (ltb q 8) refl
             ap (bit (w * 256 + b)) g ∙ bit_high 8 w b p h ∙ e p ∙ sym (ap₂ (λ (k i : ℕ). bit (get_or (b ∷ bs) k 0) i) later same)
 
 -- four bytes as one word
-bytes_word : (b0 b1 b2 b3 : ℕ) → b0 < 256 → b1 < 256 → b2 < 256 → b3 < 256 → (q : ℕ)
+pub bytes_word : (b0 b1 b2 b3 : ℕ) → b0 < 256 → b1 < 256 → b2 < 256 → b3 < 256 → (q : ℕ)
     → bit (((b3 * 256 + b2) * 256 + b1) * 256 + b0) q ≡ member (b0 ∷ b1 ∷ b2 ∷ b3 ∷ []) q
 bytes_word b0 b1 b2 b3 h0 h1 h2 h3 =
     byte_more b0 _ (b1 ∷ b2 ∷ b3 ∷ []) h0 (byte_more b1 _ (b2 ∷ b3 ∷ []) h1 (byte_more b2 b3 (b3 ∷ []) h2
