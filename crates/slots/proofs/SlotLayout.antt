@@ -4,10 +4,11 @@ use mathlib.Core.Path.{◌≡◌, sym, ◌∙◌, ap, ap₂}
 use mathlib.Core.List.{List, [], ◌∷◌, ◌++◌, append_assoc, append-nil}
 use Prim.Native.Nat.{ℕ, suc, ◌+◌, ◌-◌, ◌*◌, ◌/◌, ◌%◌, ◌≤◌, ◌<◌}
 use native.Mathlib.Nat.{add-zero}
+use native.Mathlib.Numerals.{add-one}
 use native.Mathlib.Omega.{arith}
 use borrow.Rule.Slice.PartMut.{mid_of, put_mid, post_of}
 use lib.ListN.{length, get_or, take, drop, set, length-append, length-take, length-drop, drop_of_length-le, get_or-append}
-use lib.Seq.{length-take-le, ext_get_or, get_or-take, get_or-drop, get_or-append-add, take_all, take_at, drop_at, drop-drop}
+use lib.Seq.{length-take-le, ext_get_or, get_or-take, get_or-drop, get_or-append-add, take_all, take_at, drop_at, drop-drop, take-suc, take-suc-set}
 use Rattle.slots.specs.declared.Vertex.{Vertex}
 use Rattle.slots.specs.Slots.{slot_size, slot_count, slot_bytes}
 use Rattle.slots.specs.Bytes.{with_slot, vertex_at, letter_at, parent_at}
@@ -40,6 +41,13 @@ part_back work at n vs ys h e =
     ap (λ (l : List ℕ). take at work ++ (ys ++ l)) none
     ∙ ap (λ (l : List ℕ). take at work ++ l) (append-nil ys ∙ e ∙ ap (λ (l : List ℕ). vs ++ drop n l) whole ∙ ap
     (λ (l : List ℕ). vs ++ l) (drop-drop n at work))
+
+-- one more counter read
+pub counters_more : (cs xs : List ℕ) (i x : ℕ) → i < length cs → i < length xs → x ≡ get_or xs i 0 → take i cs ≡ take i xs
+    → take (i + 1) (set cs i x) ≡ take (i + 1) xs
+counters_more cs xs i x h k q e =
+    rw add-one
+    (take-suc-set cs i x h ∙ ap₂ (λ (l : List ℕ) (w : ℕ). l ++ w ∷ []) e q ∙ sym (take-suc xs i 0 k))
 
 -- a slot's bytes are in the work buffer
 pub slot_fits : (s len : ℕ) → s < slot_count len → s * slot_size + slot_size ≤ len

@@ -7,6 +7,7 @@ use native.Mathlib.Numerals.{add-one}
 use native.Mathlib.Omega.{arith}
 use lib.ListN.{length, get_or, drop, set, length-append}
 use lib.Seq.{set_at, drop-cons, append_snoc}
+use Rattle.slots.specs.Slots.{slot_count}
 use Rattle.slots.specs.Bytes.{letter_at, parent_at, Falls, back_from, word_at}
 
 -- one letter behind a front of the buffer
@@ -61,6 +62,16 @@ module _ (work : List ℕ) where
 
   pub word_few : (s : ℕ) → Falls work s → length (word_at work s) ≤ s
   word_few s F = word_short s s (omega arith) F
+
+  -- what the recursive call asks
+  pub parent_asks : (word : List ℕ) (s p t : ℕ) → p ≡ parent_at work s → s ≡ t → (s ≡ 0 → ⊥) → s < slot_count (length work)
+      → Falls work s
+      → length (word_at work s) ≤ length word
+      → (p < t) × ((p < slot_count (length work)) × Falls work p × (length (word_at work p) ≤ length word))
+  parent_asks word s p t e q n h F l =
+      let g = falls_parent s n F in
+      let m = word_longer s n F in
+      rw e (omega (arith, g.0), (omega (arith, g.0), g.1, omega arith))
 
   -- the parent's word and this slot's letter behind it
   pub letter_behind : (word last : List ℕ) (s p n x : ℕ) → p ≡ parent_at work s → x ≡ letter_at work s → (s ≡ 0 → ⊥) → Falls work s
