@@ -9,11 +9,12 @@ use native.Mathlib.Nat.{lt_of_not-le, pow-le-pow_right, pow-suc, add-zero, zero-
 use native.Mathlib.Numerals.{add-one}
 use native.Mathlib.Omega.{arith}
 use lib.Bits.{bit_and, bit_or, and_lt, or_self, block_half, block_odd}
-use lib.Dec.{T, eqb, ltb}
+use lib.Arith.{lt_of_le-ne}
+use lib.Dec.{T, eqb, ltb, ltb→lt, lt→ltb}
 use lib.ListN.{length, get_or, set, take, drop, length-append, length-take, length-drop, length-set, take-append-drop, get_or-append}
 use lib.Pow.{high, shr-shr}
 use lib.Seq.{get_or-set_same, get_or-set_other, get_or-append-add, get_or-take, get_or-drop, ext_get_or}
-use borrow.Author.Tests.{ltb-true, ltb-false, eq-eqb, ne_eqb, eqb-false}
+use borrow.Author.Tests.{ltb-true, ltb-false, lt-ltb, le-ltb, eq-eqb, ne_eqb, eqb-true, eqb-false}
 use Rattle.std.specs.Int.{w32, from_le_bytes}
 use Rattle.automaton.specs.Ranges.{some, table}
 use Rattle.automaton.specs.Sets.{bit, with_bit, member}
@@ -77,6 +78,9 @@ some_cut f g n m l e none =
     (λ t. let x = some_below g n t in some_at f m x.0 (omega (arith, x.1)) (subst T (sym (e x.0 x.1)) x.2))
 
 -- Words.
+
+pub power_word : (q : ℕ) → q < 32 → 2 ^ q < 4294967296
+power_word q h = let l : 2 ^ q ≤ 2 ^ 31 = pow-le-pow_right (omega arith) {i = q} {j = 31} (omega arith) in omega arith
 
 -- the bits below k of a number and those from k on
 pub bit_low : (k a r i : ℕ) → i < k → bit (a * 2 ^ k + r) i ≡ bit r i
@@ -187,6 +191,42 @@ bytes_set bs h0 h1 h2 h3 q l =
     ap (λ (w : ℕ). bit w q) (omega arith)
     ∙ bytes_word (get_or bs 0 0) (get_or bs 1 0) (get_or bs 2 0) (get_or bs 3 0) h0 h1 h2 h3 q
     ∙ ap (λ (w : ℕ). bit w (q % 8)) (four_bytes bs 0 (q / 8) (omega arith) ∙ ap (λ (k : ℕ). get_or bs k 0) (zero-add (q / 8)))
+
+-- States collected one after another.
+
+-- the word has the states below q that pass f
+abbrev pub Collected : (ℕ → Bool) → ℕ → ℕ → Type 0
+Collected f q w = (k : ℕ) → bit w k ≡ (ltb k q && f k)
+
+pub collecting_begins : (f : ℕ → Bool) → Collected f 0 0
+collecting_begins f k = bit_zero k ∙ sym (ap (λ (c : Bool). c && f k) (le-ltb k 0 (omega arith)))
+
+pub collecting_goes_on : (f : ℕ → Bool) (q w w' : ℕ) → Collected f q w → ((k : ℕ) → bit w' k ≡ (bit w k || (f q && eqb q k)))
+    → Collected f (q + 1) w'
+collecting_goes_on f q w w' h e k = e k ∙ ap (λ (c : Bool). c || (f q && eqb q k)) (h k) ∙ go (eqb q k) refl
+  where
+    go : (c : Bool) → eqb q k ≡ c → ((ltb k q && f k) || (f q && eqb q k)) ≡ (ltb k (q + 1) && f k)
+    go true d =
+        let same = eqb-true q k d in
+        ap (λ (c : Bool). (c && f k) || (f q && eqb q k)) (le-ltb k q (omega arith))
+        ∙ ap₂ ◌&&◌ (ap f same) d
+        ∙ and_true (f k)
+        ∙ sym (ap (λ (c : Bool). c && f k) (lt-ltb k (q + 1) (omega arith)))
+      where
+        and_true : (c : Bool) → (c && true) ≡ c
+        and_true true = refl
+        and_true false = refl
+    go false d = ap (λ (c : Bool). (ltb k q && f k) || (f q && c)) d ∙ or_none (ltb k q && f k) (f q) ∙ ap (λ (c : Bool). c && f k) other
+      where
+        or_none : (x y : Bool) → (x || (y && false)) ≡ x
+        or_none true y = refl
+        or_none false true = refl
+        or_none false false = refl
+
+        other : ltb k q ≡ ltb k (q + 1)
+        other =
+            same_test (ltb k q) (ltb k (q + 1)) (λ t. lt→ltb k (q + 1) (omega (arith, ltb→lt k q t)))
+            (λ t. lt→ltb k q (lt_of_le-ne (omega (arith, ltb→lt k (q + 1) t)) (λ z. eqb-false q k d (sym z))))
 
 -- Rows rewritten one after another.
 
