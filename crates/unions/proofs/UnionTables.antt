@@ -4,7 +4,7 @@ use mathlib.Core.Path.{◌≡◌, refl, sym, ap, ap₂, subst, ◌∙◌}
 use mathlib.Core.Bool.{Bool, true, false, ◌&&◌, ◌||◌}
 use mathlib.Core.List.{List, ◌++◌}
 use Prim.Native.Nat.{ℕ, zero, suc, ◌+◌, ◌*◌, ◌/◌, ◌%◌, ◌^◌, ◌-◌, ◌≤◌, ◌<◌, min}
-use native.Mathlib.Nat.{pow-suc, div-eq_of_lt, add-zero, add-suc, zero-add}
+use native.Mathlib.Nat.{pow-suc, div-eq_of_lt, div-one, add-zero, add-suc, zero-add}
 use native.Mathlib.Numerals.{add-one}
 use native.Mathlib.Omega.{arith}
 use lib.Bits.{bit_or}
@@ -251,10 +251,10 @@ pub unions_kept : (values : List ℕ) (at first : ℕ) (t t' : List ℕ) (groups
 unions_kept values at first t t' groups at' n h k u g hg m q l =
     let l₁ : m < 16 = l in
     ap (λ (w : ℕ). bit w q)
-      (get_or-drop (g * 16) (drop at t') m 0
-      ∙ get_or-drop at t' (g * 16 + m) 0
-      ∙ k.before (at + (g * 16 + m)) (omega arith)
-      ∙ sym (get_or-drop (g * 16) (drop at t) m 0 ∙ get_or-drop at t (g * 16 + m) 0))
+    (get_or-drop (g * 16) (drop at t') m 0
+    ∙ get_or-drop at t' (g * 16 + m) 0
+    ∙ k.before (at + (g * 16 + m)) (omega arith)
+    ∙ sym (get_or-drop (g * 16) (drop at t) m 0 ∙ get_or-drop at t (g * 16 + m) 0))
     ∙ u g hg m q l
 
 -- Entries looked up.
@@ -308,6 +308,36 @@ module _ (t : List ℕ) (choice q : ℕ) where
   named_more g w e =
       let v = get_or t (g * 16 + choice / 2 ^ (g * 4) % 16) 0 in
       bit_of_or w v q ∙ ap (λ (b : Bool). b || bit v q) e ∙ sym (some_more (λ i. bit (get_or t (i * 16 + choice / 2 ^ (i * 4) % 16) 0) q) g)
+
+-- the entries of two tables, one behind the other
+module _ (t : List ℕ) where
+  named_append : (m k choice q : ℕ) → named t (m + k) choice q ≡ (named t m choice q || named (drop (m * 16) t) k (choice / 2 ^ (m * 4)) q)
+  named_append m k choice q =
+      some_append at m k ∙ ap (λ (c : Bool). some at m 0 || c) (some_same (λ g. at (m + g)) _ k (λ g h. behind g))
+    where
+      at : ℕ → Bool
+      at g = bit (get_or t (g * 16 + choice / 2 ^ (g * 4) % 16) 0) q
+
+      behind : (g : ℕ) → at (m + g) ≡ bit (get_or (drop (m * 16) t) (g * 16 + choice / 2 ^ (m * 4) / 2 ^ (g * 4) % 16) 0) q
+      behind g =
+          let i : (m + g) * 16 ≡ m * 16 + g * 16 = omega arith in
+          let j : (m + g) * 4 ≡ m * 4 + g * 4 = omega arith in
+          ap₂ (λ (x y : ℕ). bit (get_or t (x + choice / 2 ^ y % 16) 0) q) i j
+          ∙ ap (λ (x : ℕ). bit (get_or t (m * 16 + g * 16 + x % 16) 0) q) (sym (shr-shr choice (m * 4) (g * 4)))
+          ∙ ap (λ (x : ℕ). bit (get_or t x 0) q) (omega arith)
+          ∙ ap (λ (w : ℕ). bit w q) (sym (get_or-drop (m * 16) t (g * 16 + choice / 2 ^ (m * 4) / 2 ^ (g * 4) % 16) 0))
+
+  pub named_both : (m k choice left right q : ℕ) → bit left q ≡ named t m choice q
+      → bit right q ≡ named (drop (m * 16) t) k (choice / 2 ^ (m * 4)) q → bit (bit_or left right) q ≡ named t (m + k) choice q
+  named_both m k choice left right q e d = bit_of_or left right q ∙ ap₂ ◌||◌ e d ∙ sym (named_append m k choice q)
+
+  pub named_one : (choice q : ℕ) → bit (get_or t (choice % 16) 0) q ≡ named t 1 choice q
+  unfolding some
+  named_one choice q =
+      let i : choice % 16 ≡ 0 * 16 + choice % 16 = omega arith in
+      ap (λ (x : ℕ). bit (get_or t x 0) q) i
+      ∙ ap (λ (x : ℕ). bit (get_or t (0 * 16 + x % 16) 0) q) (sym (div-one choice))
+      ∙ sym (or_false _)
 
 -- The number of groups.
 
