@@ -53,6 +53,13 @@ bit_without w v j = bit_of_xor w (bit_and w v) j ∙ ap (other (bit w j)) (bit_o
     go true false = refl
     go false y = refl
 
+pub none_unlisted : (index : Index) (c w t : ℕ) → c ≡ 0 → bit w t ≡ (bit w t && not (bit (listed_in index c) t))
+none_unlisted index c w t e = rw e (rw (bit_zero t) (sym (and_true (bit w t))))
+  where
+    and_true : (x : Bool) → (x && true) ≡ x
+    and_true true = refl
+    and_true false = refl
+
 pub some_unlisted : (index : Index) (c w t : ℕ) → (c ≡ 0 → ⊥)
     → bit (bit_xor w (bit_and w (get_or index.listed (c - 1) 0))) t ≡ (bit w t && not (bit (listed_in index c) t))
 some_unlisted index zero w t h = absurd (h refl)
