@@ -208,6 +208,20 @@ module _ (f : List ℕ) (count : ℕ) (places : List ℕ) (p : ℕ) (L : Listing
 abbrev pub masked_counter : List ℕ → ℕ → ℕ → List ℕ → ℕ → ℕ → ℕ
 masked_counter m n a f r p = min (get_or f p 0) (get_or m (row_place n a p + r) 0)
 
+-- the state p at place i of the list raises its targets to its counter
+pub largest_raised : (m : List ℕ) (n a : ℕ) (f ps : List ℕ) (i p : ℕ) (l l' : List ℕ) → p ≡ get_or ps i 0
+    → l' ≡ table (λ r. max (get_or l r 0) (masked_counter m n a f r p)) max_states 0
+    → ((r : ℕ) → r < max_states → get_or l r 0 ≡ largest (λ j. masked_counter m n a f r (get_or ps j 0)) i 0)
+    → (r : ℕ) → r < max_states → get_or l' r 0 ≡ largest (λ j. masked_counter m n a f r (get_or ps j 0)) (i + 1) 0
+largest_raised m n a f ps i p l l' e made so_far r h =
+    ap (λ (z : List ℕ). get_or z r 0) made
+    ∙ table_at (λ r. max (get_or l r 0) (masked_counter m n a f r p)) max_states r 0 h
+    ∙ ap₂ max (so_far r h) (ap (masked_counter m n a f r) e)
+    ∙ sym
+    (ap (λ (k : ℕ). largest (λ j. masked_counter m n a f r (get_or ps j 0)) k 0) (add-one i)
+    ∙ largest_more (λ j. masked_counter m n a f r (get_or ps j 0)) i 0
+    ∙ ap (λ (k : ℕ). max (largest (λ j. masked_counter m n a f r (get_or ps j 0)) i 0) (masked_counter m n a f r (get_or ps k 0))) (zero-add i))
+
 module _ (m : List ℕ) (n a : ℕ) (f : List ℕ) where
   -- for each right state the largest counter of its predecessors among the first i states of a list
   unfoldable pub raised_by : List ℕ → ℕ → List ℕ
