@@ -2,12 +2,12 @@
 -- tests in their order. Assumes nothing.
 use Rattle.std.specs.Prelude.{Option, Some, None, Result, Ok, Err}
 use mathlib.Core.Path.{◌≡◌, refl, sym, ap, subst, ◌∙◌}
-use mathlib.Core.Bool.{Bool, true}
+use mathlib.Core.Bool.{Bool, true, false}
 use mathlib.Core.List.{List}
-use Prim.Native.Nat.{ℕ, ◌+◌, ◌≤◌}
+use Prim.Native.Nat.{ℕ, ◌+◌, ◌≤◌, ◌<◌}
 use native.Mathlib.Omega.{arith}
 use lib.ListN.{length, get_or, replicate}
-use borrow.Author.Tests.{le-leb}
+use borrow.Author.Tests.{le-leb, lt-leb}
 use Rattle.automaton.specs.declared.Automaton.{Automaton}
 use Rattle.automaton.specs.Automata.{bare, header_values}
 use Rattle.automaton.proofs.InRange.{header_values_iff}
@@ -35,6 +35,22 @@ taken p {A} e l = record { step = e; after = sym (ap (λ y. automaton_after y A)
 pub record_taken : (s : List ℕ) (i : ℕ) (A : Automaton) (x y : Result Record FileRefusal) {p : Result (Option ℕ) FileRefusal} {B : Automaton} → x ≡ record_in s i → x ≡ y
     → RecordTaken (takes y A) p A B → RecordTaken (record_at s i A) p A B
 record_taken s i A x y {p} {B} d e h = subst (λ (z : Result Record FileRefusal). RecordTaken (takes z A) p A B) (sym e ∙ d) h
+
+-- The header's tests.
+
+module _ (s : List ℕ) where
+  pub header_short : length s < 2 → header s ≡ over (refused 1)
+  unfolding header
+  header_short h = rw (lt-leb 2 (length s) h)
+
+  pub header_unmarked : 2 ≤ length s → marked s 0 header_mark ≡ false → header s ≡ over (refused 2)
+  unfolding header
+  header_unmarked h e = rw (le-leb 2 (length s) h, e)
+
+  module _ (e : marked s 0 header_mark ≡ true) where
+    pub header_cut : 2 ≤ length s → length s < 5 → header s ≡ over (refused 1)
+    unfolding header
+    header_cut h l = rw (le-leb 2 (length s) h, e, lt-leb 5 (length s) l)
 
 -- The header: with its values n, k and i read, v says whether they are in their ranges.
 
