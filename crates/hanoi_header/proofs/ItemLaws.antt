@@ -4,6 +4,7 @@ use mathlib.Core.Bool.{Bool, true, false, ◌&&◌}
 use mathlib.Core.List.{List}
 use Prim.Native.Nat.{ℕ, suc, ◌+◌, ◌≤◌, min}
 use native.Mathlib.Omega.{arith}
+use borrow.Author.Tests.{le-leb}
 use lib.Dec.{eqb, leb, ltb}
 use lib.ListN.{get_or, drop}
 use Rattle.std.specs.Prelude.{Option, Some, None, option_and_then, Err}
@@ -99,6 +100,9 @@ module _ (low below : ℕ) (small : below ≤ 1000) (ok : ℕ → Bool) (agrees 
 
 pub states_in : (v : ℕ) → (leb 1 v && leb v 32) ≡ (leb 1 v && ltb v 33)
 states_in v = grind (arith, nat_tests)
+
+pub from_zero : (v : ℕ) (b : Bool) → b ≡ (leb 0 v && b)
+from_zero v b = sym (ap (λ (x : Bool). x && b) (le-leb 0 v (omega arith)))
 
 pub below_in : (n v : ℕ) → ltb v n ≡ (leb 0 v && ltb v n)
 below_in n v = grind (arith, nat_tests)
