@@ -15,7 +15,7 @@ use Rattle.tokens.specs.Tokens.{byte_at, skip, Number, none, number, number_at}
 use Rattle.tokens.specs.Places.{byte_from, mark_at, capped}
 use Rattle.tokens.specs.declared.scanner.Scanner.{Scanner}
 use Rattle.tokens.specs.Scanners.{Ahead, Moved}
-use Rattle.tokens.proofs.Runs.{skip_end, byte_past}
+use Rattle.tokens.proofs.Runs.{skip_end, byte_past, byte_within}
 use Rattle.tokens.proofs.Places.{byte_missed, byte_taken}
 use Rattle.labels.specs.Labels.{Label, always, never, both, either, proposition, negation, proposition_mask, mask_of}
 use Rattle.labels.specs.LabelReading.{Found, absent, found, proposition_of, atom_at, operand_at, negated, closed, more, chain, conjunction, disjunction}
@@ -46,6 +46,18 @@ unfolding answer_of
 found_answer L m j e =
     let held : ℕ → ℕ × ℕ = λ n. (n, j) in
     ap (λ n. Some (held n)) e
+
+-- A mark other than byte 0 stands within the text.
+
+pub mark_within : (s : List ℕ) (j q b mark : ℕ) → q ≡ skip s j → b ≡ byte_at s q → b ≡ mark → (mark ≡ 0 → ⊥)
+    → (byte_at s (skip s j) ≡ mark) × (q + 1 ≤ length s)
+mark_within s j q b mark e d f z =
+    let h : byte_at s q ≡ mark = sym d ∙ f in
+    let w = byte_within s q mark h z in
+    (subst (λ (n : ℕ). byte_at s n ≡ mark) e h, omega (arith, w))
+
+pub mark_not : (s : List ℕ) (j q b mark : ℕ) → q ≡ skip s j → b ≡ byte_at s q → (b ≡ mark → ⊥) → byte_at s (skip s j) ≡ mark → ⊥
+mark_not s j q b mark e d n h = n (d ∙ subst (λ (k : ℕ). byte_at s k ≡ mark) (sym e) h)
 
 -- Chains of what `operand` reads, joined behind each byte `mark`.
 
@@ -246,6 +258,19 @@ module _ (o : Operator) (k d : ℕ) (x : Scanner) where
             moved = record { text = h.text ∙ a.text ∙ c.moved.text; forward = omega (arith, c.moved.forward, a.forward, h.forward) };
           }
 
+-- Negations of the label that x is.
+
+module _ (x : Found) where
+  pub negated_bad : None ≡ answer_of x → None ≡ answer_of (negated x)
+  unfolding answer_of
+  negated_bad e = rw (answer_none x e) refl
+
+  pub negated_on : (m j : ℕ) → Some (m, j) ≡ answer_of x → Some (65535 - m, j) ≡ answer_of (negated x)
+  unfolding mask_of
+  negated_on m j e =
+      let r = answer_some x m j e in
+      rw r.read (found_answer (negation r.label) (65535 - m) j (ap (λ x. 65535 - x) r.mask))
+
 -- Operands at place i, of which j is the place behind white space, and l that behind a `!` or a `(`.
 
 module _ (s : List ℕ) (k d i j : ℕ) (here : j ≡ skip s i) where
@@ -260,14 +285,10 @@ module _ (s : List ℕ) (k d i j : ℕ) (here : j ≡ skip s i) where
           rw (t.1, here) (operand_bang s k d i more (ap (byte_at s) (sym here) ∙ t.0))
 
       pub negated_some : (m n : ℕ) → Some (m, n) ≡ answer_of (operand_at s k (d - 1) l) → Some (65535 - m, n) ≡ answer_of (operand_at s k d i)
-      unfolding mask_of
-      negated_some m n b =
-          let r = answer_some (operand_at s k (d - 1) l) m n b in
-          rw (operand_negated, r.read) (found_answer (negation r.label) (65535 - m) n (ap (λ x. 65535 - x) r.mask))
+      negated_some m n b = rw operand_negated (negated_on (operand_at s k (d - 1) l) m n b)
 
       pub negated_none : None ≡ answer_of (operand_at s k (d - 1) l) → None ≡ answer_of (operand_at s k d i)
-      unfolding answer_of
-      negated_none b = rw (operand_negated, answer_none (operand_at s k (d - 1) l) b) refl
+      negated_none b = rw operand_negated (negated_bad (operand_at s k (d - 1) l) b)
 
     pub operand_closed : Some l ≡ byte_from 0x28 s j → operand_at s k d i ≡ closed s (disjunction s (operand_at s k (d - 1)) l)
     operand_closed e =
