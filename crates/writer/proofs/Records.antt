@@ -8,11 +8,11 @@ use lib.ListN.{length}
 use Rattle.std.specs.Prelude.{All}
 use Rattle.std.proofs.lemmas.List.Elements.{All-rest}
 use Rattle.automaton.specs.Ranges.{chained}
-use Rattle.automaton.proofs.Lists.{chained_past, chained_end}
+use Rattle.automaton.proofs.Lists.{chained_start, chained_past, chained_end}
 use Rattle.format.specs.Writing.{Item, item_bytes, items_bytes}
 use Rattle.buffers.specs.declared.Cursor.{Cursor}
 use Rattle.buffers.specs.Cursors.{HasRoom, Added}
-use Rattle.buffers.proofs.Left.{Left, left_start, left_room, left_more, left_end}
+use Rattle.buffers.proofs.Left.{Left, left_start, left_length, left_room, left_more, left_end}
 use Rattle.fixed_form.proofs.Lengths.{items_append}
 
 -- A loop over the states of a set that writes the record g of each: `states` are left, all below n, and so far the cursor c has become d.
@@ -30,6 +30,9 @@ listing_start {g} {n} c p q b e h =
     }
 
 module _ {g : ℕ → Item} {n : ℕ} {all : List Item} {c : Cursor} {states : List ℕ} {d : Cursor} (u : Listing g n all c states d) where
+  pub listing_length : length d.out.now ≡ length c.out.now
+  listing_length = left_length u.left
+
   pub listing_end : states ≡ [] → Added c (items_bytes all) d
   unfolding items_bytes
   listing_end e = left_end u.left (ap (λ (l : List ℕ). items_bytes (map g l)) e)
@@ -53,6 +56,12 @@ module _ {g : ℕ → Item} {n : ℕ} {all : List Item} {c : Cursor} {states : L
 -- A loop over m numbers that writes the records f of each: it has come to i.
 abbrev pub Chaining : (ℕ → List Item) → ℕ → Cursor → ℕ → Cursor → Type 0
 Chaining f m c i d = Left c (items_bytes (chained f m 0)) (items_bytes (chained f (m - i) i)) d
+
+pub chaining_start : (f : ℕ → List Item) (m : ℕ) (c : Cursor) → HasRoom c 0 → Chaining f m c 0 c
+chaining_start f m c h = left_start c _ _ (ap items_bytes (chained_start f m)) h
+
+pub chaining_length : (f : ℕ → List Item) (m : ℕ) {c : Cursor} (i : ℕ) {d : Cursor} → Chaining f m c i d → length d.out.now ≡ length c.out.now
+chaining_length f m i u = left_length u
 
 module _ (f : ℕ → List Item) (m : ℕ) {c : Cursor} {i : ℕ} {d : Cursor} (u : Chaining f m c i d) where
   pub chaining_end : m ≤ i → Added c (items_bytes (chained f m 0)) d
