@@ -11,12 +11,12 @@ use Rattle.answers.specs.declared.WalkRefusal.TheVariants.{NoSlots, NoRoom}
 use Rattle.history.specs.declared.Entry.{Entry}
 use Rattle.history.specs.declared.OfferRefusal.{OfferRefusal}
 use Rattle.history.specs.declared.OfferRefusal.TheVariants.{Malformed, Empty, File, Bound, Letters, Dead, NotSmaller, Walk}
-use Rattle.history.specs.OfferAnswers.{OfferAnswer, offer_answer_of, offer_refusal_number}
+use Rattle.history.specs.OfferAnswers.{offer_answer_of, offer_refusal_number}
 use Rattle.buffers.specs.Buffers.{WrittenAt}
 use Rattle.buffers.specs.Cursors.{Added}
 use Rattle.buffers.specs.declared.Cursor.{Cursor}
 use Rattle.report.specs.Line.{offer_line, refused_line, line_after, answered_length, Lined}
-use Rattle.buffers.proofs.Buffers.{written_as, written_keeps_length}
+use Rattle.buffers.proofs.Buffers.{written_keeps_length}
 
 -- a refusal's line is that of its number
 pub refusal_shown : (E : Entry) (w : List ℕ) (r : OfferRefusal) → refused_line (offer_refusal_number r) ≡ offer_line E (offer_answer_of (Err r)) w
@@ -30,10 +30,6 @@ refusal_shown E w Dead = refl
 refusal_shown E w NotSmaller = refl
 refusal_shown E w (Walk i (NoSlots n)) = refl
 refusal_shown E w (Walk i (NoRoom len)) = refl
-
-pub answer_written : {d e : List ℕ} {r : ℕ} (E : Entry) (w : List ℕ) {x y : OfferAnswer} → x ≡ y
-    → WrittenAt d 0 (offer_line E y w) e r → WrittenAt d 0 (offer_line E x w) e r
-answer_written E w q u = written_as (ap (λ (x : OfferAnswer). offer_line E x w) (sym q)) u
 
 -- the buffer has the bytes that are asked for, and the line is written to its front
 pub line_written : (m : ℕ) {l d e : List ℕ} {r : ℕ} → true ≡ leb m (length d) → WrittenAt d 0 l e r → Lined m l d e (Some r)

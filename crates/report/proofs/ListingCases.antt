@@ -13,6 +13,8 @@ use Rattle.history.proofs.OfferBuffers.{offer_part_le}
 use Rattle.history.specs.declared.Entry.{Entry}
 use Rattle.history.specs.OfferAnswers.{OfferAnswer}
 use Rattle.history.specs.Offers.{Offer, offer_of, offer_part, part_length}
+use Rattle.buffers.specs.Buffers.{WrittenAt}
+use Rattle.buffers.proofs.Buffers.{written_as}
 use Rattle.report.specs.Line.{offer_line, line_after, answered_length, line_room, Lined}
 use Rattle.report.specs.Listing.{work_bytes, word_bytes, offer_listing}
 
@@ -29,6 +31,10 @@ lined_more {m} {k} {l} {d} {e} {n} h r u =
 -- the line by another name
 pub lined_as : {m : ℕ} {l k d e : List ℕ} {n : Option ℕ} → l ≡ k → Lined m l d e n → Lined m k d e n
 lined_as {m} {l} {k} {d} {e} {n} q u = subst (λ (x : List ℕ). Lined m x d e n) q u
+
+pub answer_written : {d e : List ℕ} {r : ℕ} (E : Entry) (w : List ℕ) {x y : OfferAnswer} → x ≡ y
+    → WrittenAt d 0 (offer_line E y w) e r → WrittenAt d 0 (offer_line E x w) e r
+answer_written E w q u = written_as (ap (λ (x : OfferAnswer). offer_line E x w) (sym q)) u
 
 -- the offer of the listing, with buffers of zeros
 abbrev offer_made : Entry → List ℕ → ℕ → Offer
