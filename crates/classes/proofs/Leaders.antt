@@ -192,15 +192,15 @@ module _ (work cs : List ℕ) (k : ℕ) (key : k ≡ key_of cs) where
           let d = class_some work cs n s e in
           top_above work k m s (omega arith) d.2 (ap key_of d.1 ∙ sym key)
 
+  pub chain_end : (n c : ℕ) → OnChain work cs n k c → c ≤ 0 → 0 ≡ class_of work cs n
+  chain_end n c C l = let r = C.rest in omega arith
+
   -- the slot where the walk stands has the counters: it is their class
   pub chain_here : (n c : ℕ) → OnChain work cs n k c → 0 < c → same_list cs (counters_at work (c - 1)) ≡ true → c ≡ class_of work cs n
   chain_here n c C l e =
       let i = C.inside in
       let d = class_last work cs n (c - 1) (omega arith) (sym (equal_lists cs (counters_at work (c - 1)) e)) (C.leader l).0 in
       omega arith
-
-  pub chain_end : (n c : ℕ) → OnChain work cs n k c → c ≤ 0 → 0 ≡ class_of work cs n
-  chain_end n c C l = let r = C.rest in omega arith
 
   module _ (index : Index) (n : ℕ) (I : Chained work index n) where
     pub chain_start : k < keys → OnChain work cs n k (get_or index.heads k 0)

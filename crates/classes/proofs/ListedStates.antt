@@ -44,6 +44,13 @@ bit_of_xor w v j =
     go (suc zero) (suc (suc y)) h k = absurd (omega arith)
     go (suc (suc x)) y h k = absurd (omega arith)
 
+pub none_unlisted : (index : Index) (c w t : ℕ) → c ≡ 0 → bit w t ≡ (bit w t && not (bit (listed_in index c) t))
+none_unlisted index c w t e = rw e (rw (bit_zero t) (sym (and_true (bit w t))))
+  where
+    and_true : (x : Bool) → (x && true) ≡ x
+    and_true true = refl
+    and_true false = refl
+
 -- a word without what it has in common with another
 bit_without : (w v j : ℕ) → bit (bit_xor w (bit_and w v)) j ≡ (bit w j && not (bit v j))
 bit_without w v j = bit_of_xor w (bit_and w v) j ∙ ap (other (bit w j)) (bit_of_and w v j) ∙ go (bit w j) (bit v j)
@@ -52,13 +59,6 @@ bit_without w v j = bit_of_xor w (bit_and w v) j ∙ ap (other (bit w j)) (bit_o
     go true true = refl
     go true false = refl
     go false y = refl
-
-pub none_unlisted : (index : Index) (c w t : ℕ) → c ≡ 0 → bit w t ≡ (bit w t && not (bit (listed_in index c) t))
-none_unlisted index c w t e = rw e (rw (bit_zero t) (sym (and_true (bit w t))))
-  where
-    and_true : (x : Bool) → (x && true) ≡ x
-    and_true true = refl
-    and_true false = refl
 
 pub some_unlisted : (index : Index) (c w t : ℕ) → (c ≡ 0 → ⊥)
     → bit (bit_xor w (bit_and w (get_or index.listed (c - 1) 0))) t ≡ (bit w t && not (bit (listed_in index c) t))
