@@ -72,5 +72,5 @@ pub fn bad_lasso(letters: usize, stem: &[u8], cycle: &[u8]) -> bool
     if (stem.len() > MAX_LENGTH) | cycle.is_empty() | (cycle.len() > MAX_LENGTH) {
         return true;
     }
-    outside(letters, stem) | outside(letters, cycle)
+    outside(letters, stem) || outside(letters, cycle)
 }

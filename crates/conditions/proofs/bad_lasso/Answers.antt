@@ -1,11 +1,19 @@
 -- `conditions::bad_lasso` meets its contract: no length decides, so the letters do. Assumes nothing.
-use mathlib.Core.Path.{sym, ◌∙◌}
+use mathlib.Core.Path.{refl, sym, ◌∙◌}
 use Rattle.history.specs.Verdicts.{bad_lasso}
 use Rattle.conditions.proofs.Letters.{outside_any, passed}
 use Rattle.conditions.proofs.bad_lasso.Goals as goal
 
-pub returns : goal.returns
+pub returns-then-outside : goal.returns-then-outside
 unfolding bad_lasso
-returns c =
-    rw (sym c.is_empty.ensures) (passed c.if-stem-is_empty.false (c.outside.ensures ∙ outside_any c.args.letters c.args.stem.now)
-    (c.outside-2.ensures ∙ outside_any c.args.letters c.args.cycle.now))
+returns-then-outside c =
+    let a = c.args in
+    c.if-outside.true
+    ∙ rw (sym c.is_empty.ensures) (passed c.if-stem-is_empty.false (sym c.if-outside.true ∙ c.outside.ensures ∙ outside_any a.letters a.stem.now) refl)
+
+pub returns-else-outside : goal.returns-else-outside
+unfolding bad_lasso
+returns-else-outside c =
+    let a = c.args in
+    rw (sym c.is_empty.ensures) (passed c.if-stem-is_empty.false (sym c.if-outside.false ∙ c.outside.ensures ∙ outside_any a.letters a.stem.now)
+    (c.outside-else-outside.ensures ∙ outside_any a.letters a.cycle.now))
