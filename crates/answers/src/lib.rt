@@ -1,8 +1,9 @@
 // The theory of the contain call (docs/reference.md, "Contain"): its checks, answers, table and demands. There is no code here but the types of
-// the answers, and a walk's refusals' numbers; the crate `contain` has it.
+// the answers, and refusals' numbers; the crate `contain` has it.
 #![tactic(auto)]
 
-ghost use Rattle.answers.specs.Outcomes.{walk_refusal_number};
+ghost use Rattle.std.specs.Prelude.{◌≡◌};
+ghost use Rattle.answers.specs.Outcomes.{walk_refusal_number, contain_row};
 
 use format::{FileRefusal, Numbered};
 
@@ -42,4 +43,47 @@ pub enum ContainRefusal {
     FirstDead,
     SecondDead,
     Walk(WalkRefusal),
+}
+
+// A row of contain's table of refusals with any numbers: a refusal's number and the file, 1 or 2, and 0 where none is meant; or a walk's refusal.
+#[derive(Clone, Copy, Debug, PartialEq, Eq)]
+pub enum ContainRow {
+    Refused { number: usize, file: usize },
+    Walk(WalkRefusal),
+}
+
+// What refuses a contain call: the table has a row for it.
+pub trait RefusesContain: Copy {
+    ghost use Rattle.answers.specs.declared.ContainRow.{ContainRow};
+
+    ghost table_row: { Self → ContainRow };
+
+    fn table_row(self) -> ContainRow
+        ensures { result ≡ table_row self };
+}
+
+impl RefusesContain for ContainRefusal {
+    ghost table_row = { contain_row };
+
+    fn table_row(self) -> ContainRow {
+        let (number, file) = match self {
+            ContainRefusal::First(refusal) => (refusal.number(), 1),
+            ContainRefusal::Second(refusal) => (refusal.number(), 2),
+            ContainRefusal::Bound => (8, 0),
+            ContainRefusal::Letters => (7, 0),
+            ContainRefusal::FirstDead => (6, 1),
+            ContainRefusal::SecondDead => (6, 2),
+            ContainRefusal::Walk(refusal) => return ContainRow::Walk(refusal),
+        };
+        ContainRow::Refused { number, file }
+    }
+}
+
+// A row stands for itself, so that what takes a refusal takes every number that can stand in the table.
+impl RefusesContain for ContainRow {
+    ghost table_row = { λ r. r };
+
+    fn table_row(self) -> ContainRow {
+        self
+    }
 }

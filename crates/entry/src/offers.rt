@@ -2,7 +2,7 @@
 ghost use Rattle.std.specs.Prelude.{◌≡◌, ◌≤◌, length, take};
 ghost use Rattle.automaton.specs.Automata.{InRange};
 ghost use Rattle.answers.specs.Outcomes.{comparison_of};
-ghost use Rattle.history.specs.OfferAnswers.{offer_answer_of};
+ghost use Rattle.history.specs.OfferAnswers.{offer_answer_by, offer_answer_of};
 ghost use Rattle.history.specs.OfferDemand.{OfferDemand1};
 ghost use Rattle.history.specs.Offers.{
   offer_vetting,
@@ -22,7 +22,7 @@ use automaton::{Automaton, Valid};
 use conditions::{MAX_EDITION, malformed, smaller};
 use contain::compare;
 use graph::Bound;
-use history::{Entry, OfferRefusal, Offered, Walk};
+use history::{Entry, OfferRefusal, Offered, RefusesOffer, Walk};
 
 // The checks of an offer, against an entry whose automaton is in range: the bound that passes.
 fn vet(entry: &Entry, offer: Valid, bound: u64) -> Result<Bound, OfferRefusal>
@@ -92,8 +92,8 @@ fn walk_both(
 }
 
 // Whether the answer is "taken".
-pub fn is_taken(offered: Result<Offered, OfferRefusal>) -> bool
-    ensures { result ≡ is_taken (offer_answer_of offered) }
+pub fn is_taken<R: RefusesOffer>(offered: Result<Offered, R>) -> bool
+    ensures { result ≡ is_taken (offer_answer_by R.table_row offered) }
 {
     matches!(offered, Ok(Offered::Taken { .. }))
 }
@@ -138,8 +138,8 @@ pub fn offer_entry(
 }
 
 // The length of the word that an answer comes with: 0 where there is no word, so that the part handed out is empty then.
-pub fn part_length(offered: Result<Offered, OfferRefusal>) -> usize
-    ensures { result ≡ part_length (offer_answer_of offered) }
+pub fn part_length<R: RefusesOffer>(offered: Result<Offered, R>) -> usize
+    ensures { result ≡ part_length (offer_answer_by R.table_row offered) }
 {
     match offered {
         Ok(Offered::Forward { len, .. } | Offered::Back { len, .. }) => len,
@@ -149,9 +149,12 @@ pub fn part_length(offered: Result<Offered, OfferRefusal>) -> usize
 
 // The word that an offer's answer comes with, as the written part of the word buffer that the offer left, which is not copied; without
 // a word the part is empty.
-pub fn offer_part<'a>(offered: Result<Offered, OfferRefusal>, word: &'a mut [u8]) -> &'a mut [u8]
-    requires { part_length (offer_answer_of offered) ≤ length word.old }
-    ensures part { result.now ≡ take (part_length (offer_answer_of offered)) word.old }
+pub fn offer_part<'a, R: RefusesOffer>(
+    offered: Result<Offered, R>,
+    word: &'a mut [u8],
+) -> &'a mut [u8]
+    requires { part_length (offer_answer_by R.table_row offered) ≤ length word.old }
+    ensures part { result.now ≡ take (part_length (offer_answer_by R.table_row offered)) word.old }
     ensures place { result.ref_ptr ≡ word.entry.ref_ptr }
 {
     let n = part_length(offered);

@@ -5,7 +5,7 @@
 ghost use Rattle.std.specs.Prelude.{◌≡◌};
 ghost use Rattle.history.specs.Entries.{fresh_entry};
 ghost use Rattle.history.specs.OpenAnswers.{open_refusal_number};
-ghost use Rattle.history.specs.OfferAnswers.{offer_refusal_number};
+ghost use Rattle.history.specs.OfferAnswers.{offer_refusal_number, row_number, offer_row};
 ghost use Rattle.history.specs.VerdictAnswers.{verdict_refusal_number};
 
 use answers::WalkRefusal;
@@ -113,6 +113,64 @@ impl Numbered for OfferRefusal {
             OfferRefusal::NotSmaller => 14,
             OfferRefusal::Walk(_, refusal) => refusal.number(),
         }
+    }
+}
+
+// A row of offer's table of refusals with any numbers: a refusal's number; 10 with the walk, 1 forward or 2 back, and the slots; 11 with the walk and the
+// length needed.
+#[derive(Clone, Copy, Debug, PartialEq, Eq)]
+pub enum OfferRow {
+    Refused(usize),
+    NoSlots { walk: usize, slots: usize },
+    NoRoom { walk: usize, len: usize },
+}
+
+impl Numbered for OfferRow {
+    ghost number = { row_number };
+
+    fn number(self) -> usize {
+        match self {
+            OfferRow::Refused(number) => number,
+            OfferRow::NoSlots { .. } => 10,
+            OfferRow::NoRoom { .. } => 11,
+        }
+    }
+}
+
+// What refuses an offer: the table has a row for it.
+pub trait RefusesOffer: Copy {
+    ghost use Rattle.history.specs.declared.OfferRow.{OfferRow};
+
+    ghost table_row: { Self → OfferRow };
+
+    fn table_row(self) -> OfferRow
+        ensures { result ≡ table_row self };
+}
+
+impl RefusesOffer for OfferRefusal {
+    ghost table_row = { offer_row };
+
+    fn table_row(self) -> OfferRow {
+        match self {
+            OfferRefusal::Walk(walk, WalkRefusal::NoSlots(slots)) => OfferRow::NoSlots {
+                walk: walk as usize,
+                slots,
+            },
+            OfferRefusal::Walk(walk, WalkRefusal::NoRoom(len)) => OfferRow::NoRoom {
+                walk: walk as usize,
+                len,
+            },
+            refusal => OfferRow::Refused(refusal.number()),
+        }
+    }
+}
+
+// A row stands for itself, so that what takes a refusal takes every number that can stand in the table.
+impl RefusesOffer for OfferRow {
+    ghost table_row = { λ r. r };
+
+    fn table_row(self) -> OfferRow {
+        self
     }
 }
 

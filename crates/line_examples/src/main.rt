@@ -120,12 +120,12 @@ fn show_others(rt: &impl Print) -> io::Result<()> {
 // A byte too few: no length is answered, and the buffer is as it was.
 fn show_short(rt: &impl Print) -> io::Result<()> {
     let mut line = [b'.'; 259];
-    let back = Offered::Back {
+    let back: Result<Offered, OfferRefusal> = Ok(Offered::Back {
         forward: 4,
         back: 2,
         len: 1,
-    };
-    let written = report::offer_line(&entry_of(0, 4, 4), Ok(back), b"\x00", &mut line);
+    });
+    let written = report::offer_line(&entry_of(0, 4, 4), back, b"\x00", &mut line);
     let n = written.unwrap_or(0);
     println!(rt; "short {n}")?;
     rt.write_all(&line[..16])?;

@@ -6,30 +6,23 @@ use Prim.Native.Nat.{ℕ}
 use native.Mathlib.Nat.{zero-add}
 use lib.Dec.{leb}
 use lib.ListN.{length, drop}
-use Rattle.std.specs.Prelude.{Some, None, Err}
-use Rattle.answers.specs.declared.WalkRefusal.TheVariants.{NoSlots, NoRoom}
+use Rattle.std.specs.Prelude.{Some, None}
 use Rattle.history.specs.declared.Entry.{Entry}
-use Rattle.history.specs.declared.OfferRefusal.{OfferRefusal}
-use Rattle.history.specs.declared.OfferRefusal.TheVariants.{Malformed, Empty, File, Bound, Letters, Dead, NotSmaller, Walk}
-use Rattle.history.specs.OfferAnswers.{offer_answer_of, offer_refusal_number}
+use Rattle.history.specs.declared.OfferRow.{OfferRow}
+use Rattle.history.specs.declared.OfferRow.TheVariants.{Refused, NoSlots, NoRoom}
+use Rattle.history.specs.OfferAnswers.{row_number, row_answer}
 use Rattle.buffers.specs.Buffers.{WrittenAt}
 use Rattle.buffers.specs.Cursors.{Added}
 use Rattle.buffers.specs.declared.Cursor.{Cursor}
 use Rattle.report.specs.Line.{offer_line, refused_line, line_after, answered_length, Lined}
 use Rattle.buffers.proofs.Buffers.{written_keeps_length}
 
--- a refusal's line is that of its number
-pub refusal_shown : (E : Entry) (w : List ℕ) (r : OfferRefusal) → refused_line (offer_refusal_number r) ≡ offer_line E (offer_answer_of (Err r)) w
+-- a refusal's line is that of its row's number
+pub refusal_shown : (E : Entry) (w : List ℕ) (r : OfferRow) → refused_line (row_number r) ≡ offer_line E (row_answer r) w
 unfolding offer_line
-refusal_shown E w Malformed = refl
-refusal_shown E w Empty = refl
-refusal_shown E w (File f) = refl
-refusal_shown E w Bound = refl
-refusal_shown E w Letters = refl
-refusal_shown E w Dead = refl
-refusal_shown E w NotSmaller = refl
-refusal_shown E w (Walk i (NoSlots n)) = refl
-refusal_shown E w (Walk i (NoRoom len)) = refl
+refusal_shown E w (Refused n) = refl
+refusal_shown E w (NoSlots i n) = refl
+refusal_shown E w (NoRoom i len) = refl
 
 -- the buffer has the bytes that are asked for, and the line is written to its front
 pub line_written : (m : ℕ) {l d e : List ℕ} {r : ℕ} → true ≡ leb m (length d) → WrittenAt d 0 l e r → Lined m l d e (Some r)

@@ -2,14 +2,14 @@
 ghost use Rattle.std.specs.Prelude.{◌++◌, ◌+◌, ◌*◌, ◌≤◌, length};
 ghost use Rattle.buffers.specs.Cursors.{HasRoom, Added};
 ghost use Rattle.text.specs.Text.{decimal, space};
-ghost use Rattle.history.specs.OfferAnswers.{offer_answer_of};
+ghost use Rattle.history.specs.OfferAnswers.{offer_answer_by, offer_answer_of};
 ghost use Rattle.report.specs.Line.{newline, word_text, fields, offer_line, refused_line, misuse_line, line_room};
 ghost use Rattle.text.specs.Text.{letters as letters_text};
 
 use crate::Misuse;
 use buffers::Cursor;
 use format::Numbered;
-use history::{Entry, OfferRefusal, Offered};
+use history::{Entry, Offered, RefusesOffer};
 use text::{percent_saved, put_decimal, put_field, put_letters};
 
 // Writes the fields of an entry, from the space before the edition number to the space before the counts.
@@ -82,18 +82,18 @@ pub fn put_refused<R: Numbered>(line: &mut Cursor, refusal: R)
 }
 
 // Writes the line of an offer's answer.
-pub fn put_answer(
+pub fn put_answer<R: RefusesOffer>(
     line: &mut Cursor,
     entry: &Entry,
-    answer: Result<Offered, OfferRefusal>,
+    answer: Result<Offered, R>,
     letters: &[u8],
 )
     requires { HasRoom line.old (line_room letters.now) }
-    ensures { Added line.old (offer_line entry.now (offer_answer_of answer) letters.now) line.new }
+    ensures { Added line.old (offer_line entry.now (offer_answer_by R.table_row answer) letters.now) line.new }
 {
     match answer {
         Ok(offered) => put_offered(line, entry, offered, letters),
-        Err(refusal) => put_refused(line, refusal),
+        Err(refusal) => put_refused(line, refusal.table_row()),
     }
 }
 

@@ -2,7 +2,7 @@
 #![tactic(auto)]
 
 ghost use Rattle.std.specs.Prelude.{◌≡◌, [], ◌+◌, ◌*◌, leb};
-ghost use Rattle.history.specs.OfferAnswers.{offer_answer_of};
+ghost use Rattle.history.specs.OfferAnswers.{offer_answer_by};
 ghost use Rattle.report.specs.Line.{offer_line, refused_line, misuse_line, line_room, Lined};
 
 mod answer_lines;
@@ -11,7 +11,7 @@ mod listings;
 use answer_lines::{put_answer, put_misuse, put_refused};
 use buffers::Cursor;
 use format::Numbered;
-use history::{Entry, OfferRefusal, Offered};
+use history::{Entry, Offered, RefusesOffer};
 pub use listings::{MAX_FILE, ROOM, listing_line};
 
 // Why the listing makes no call: its input has another length than one byte, or a file is too long.
@@ -32,13 +32,13 @@ fn has_room(size: usize, letters: usize) -> bool
 // letters of the word. With less room than is asked for nothing is written. A length and no slice, since a slice lent on would leave no promise of the
 // whole buffer. The functions for the three lines begin alike: one that takes what is
 // written as a closure would ask for its conditions at every cursor, in more lines than it spares.
-pub fn offer_line(
+pub fn offer_line<R: RefusesOffer>(
     entry: &Entry,
-    answer: Result<Offered, OfferRefusal>,
+    answer: Result<Offered, R>,
     letters: &[u8],
     line: &mut [u8],
 ) -> Option<usize>
-    ensures { Lined (line_room letters.now) (offer_line entry.now (offer_answer_of answer) letters.now)
+    ensures { Lined (line_room letters.now) (offer_line entry.now (offer_answer_by R.table_row answer) letters.now)
         line.old line.new result }
 {
     if !has_room(line.len(), letters.len()) {

@@ -4,9 +4,9 @@ use Rattle.report.proofs.Lines.{line_added, line_left}
 use Rattle.report.proofs.offer_line.Goals as goal
 
 pub returns-then-not-has_room : goal.returns-then-not-has_room
-returns-then-not-has_room c = line_left _ _ c.if-not-has_room.ensures
+returns-then-not-has_room g c = line_left _ _ c.if-not-has_room.ensures
 
 pub returns : goal.returns
-returns c =
+returns g c =
     let same = c.put_answer.ensures.same_buffer in
     line_added _ c.if-not-has_room.ensures c.new-cursor.ensures.out c.new-cursor.ensures.at c.put_answer.ensures (search rules)
