@@ -1,9 +1,9 @@
 // What the program `listing` prints, written into a lent buffer: the calls, with buffers of their own, and the line of their answer.
-ghost use Rattle.std.specs.Prelude.{◌≡◌, ◌≤◌, length};
+ghost use Rattle.std.specs.Prelude.{◌≡◌, ◌+◌, ◌*◌, ◌≤◌, length};
 ghost use Rattle.history.specs.Entries.{fresh_entry};
 ghost use Rattle.history.specs.Opens.{open_of};
 ghost use Rattle.report.specs.Line.{Lined};
-ghost use Rattle.report.specs.Listing.{offer_listing, open_listing, bound_listing, listing};
+ghost use Rattle.report.specs.Listing.{word_bytes, offer_listing, open_listing, bound_listing, listing};
 
 use crate::{Misuse, misuse_line, offer_line, refused_line};
 use history::Entry;
@@ -21,8 +21,9 @@ pub const ROOM: usize = 256 + 4 * WORD_BYTES;
 
 // Writes the line of an offer to an opened entry.
 fn offer_listing(entry: &mut Entry, offer: &[u8], bound: u64, line: &mut [u8]) -> Option<usize>
-    requires { ROOM ≤ length line.old }
-    ensures { Lined ROOM (offer_listing entry.old offer.now bound) line.old line.new result }
+    requires { 256 + 4 * word_bytes ≤ length line.old }
+    ensures { Lined (256 + 4 * word_bytes) (offer_listing entry.old offer.now bound)
+        line.old line.new result }
 {
     let mut work = [0u8; WORK_BYTES];
     let mut word = [0u8; WORD_BYTES];
@@ -33,8 +34,8 @@ fn offer_listing(entry: &mut Entry, offer: &[u8], bound: u64, line: &mut [u8]) -
 
 // Writes the line of the calls: open the first file, and offer the other one where it is opened.
 fn open_listing(first: &[u8], offer: &[u8], bound: u64, line: &mut [u8]) -> Option<usize>
-    requires { ROOM ≤ length line.old }
-    ensures { Lined ROOM
+    requires { 256 + 4 * word_bytes ≤ length line.old }
+    ensures { Lined (256 + 4 * word_bytes)
         (open_listing (open_of fresh_entry first.now).answer (open_of fresh_entry first.now).entry
         offer.now bound)
         line.old line.new result }
@@ -63,7 +64,7 @@ fn bound_of(input: &[u8], first: &[u8], offer: &[u8]) -> Result<u8, Misuse>
 // Writes what the program `listing` prints, of its input and its two files, to the front of the buffer, and answers its length. With
 // less room than is asked for nothing is written.
 pub fn listing_line(input: &[u8], first: &[u8], offer: &[u8], line: &mut [u8]) -> Option<usize>
-    ensures { Lined ROOM (listing input.now first.now offer.now)
+    ensures { Lined (256 + 4 * word_bytes) (listing input.now first.now offer.now)
         line.old line.new result }
 {
     if line.len() < ROOM {
