@@ -14,7 +14,6 @@ use lib.Seq.{ext_get_or}
 use Rattle.automaton.proofs.Booleans.{T_true, is_true, not_T_false, and_both, clash}
 use Rattle.slots.specs.Slots.{same_list}
 use Rattle.slots.proofs.Vertices.{same_list_eq, same_list_refl}
-use Rattle.classes.specs.declared.Index.{Index}
 use Rattle.classes.specs.Classes.{counters_at, class_of, leads, key_of, keys, top_leader, Chained}
 
 -- Counters compared.
@@ -202,12 +201,12 @@ module _ (work cs : List ℕ) (k : ℕ) (key : k ≡ key_of cs) where
       let d = class_last work cs n (c - 1) (omega arith) (sym (equal_lists cs (counters_at work (c - 1)) e)) (C.leader l).0 in
       omega arith
 
-  module _ (index : Index) (n : ℕ) (I : Chained work index n) where
-    pub chain_start : k < keys → OnChain work cs n k (get_or index.heads k 0)
+  module _ (heads nexts : List ℕ) (n : ℕ) (I : Chained work heads nexts n) where
+    pub chain_start : k < keys → OnChain work cs n k (get_or heads k 0)
     chain_start l = rw (I.head_is k l) (chain_top n n (omega arith) (class_le work cs n))
 
     pub chain_next : (c : ℕ) → OnChain work cs n k c → 0 < c → same_list cs (counters_at work (c - 1)) ≡ false
-        → OnChain work cs n k (get_or index.nexts (c - 1) 0) × (get_or index.nexts (c - 1) 0 < c)
+        → OnChain work cs n k (get_or nexts (c - 1) 0) × (get_or nexts (c - 1) 0 < c)
     chain_next c C l e =
         let i = C.inside in
         let d = C.leader l in

@@ -21,7 +21,9 @@ use Rattle.slots.specs.declared.Vertex.{Vertex}
 use Rattle.slots.specs.Slots.{same_list, same_vertex}
 use Rattle.slots.specs.Bytes.{vertex_at}
 use Rattle.slots.proofs.Vertices.{same_list_eq}
-use Rattle.classes.specs.Classes.{counters_at, class_of, leads, listed_with, Joined, class_at, listed_in}
+use Rattle.classes.specs.Classes as arrays
+use Rattle.classes.specs.Classes.{counters_at, class_of, leads, listed_with, Joined}
+use Rattle.classes.specs.Indexes.{class_at, listed_in}
 use Rattle.classes.specs.declared.Index.{Index}
 use Rattle.classes.proofs.Leaders.{lists_equal, class_none, class_some, class_last, class_later, class_below}
 
@@ -60,10 +62,10 @@ bit_without w v j = bit_of_xor w (bit_and w v) j ∙ ap (other (bit w j)) (bit_o
     go true false = refl
     go false y = refl
 
-pub some_unlisted : (index : Index) (c w t : ℕ) → (c ≡ 0 → ⊥)
-    → bit (bit_xor w (bit_and w (get_or index.listed (c - 1) 0))) t ≡ (bit w t && not (bit (listed_in index c) t))
-some_unlisted index zero w t h = absurd (h refl)
-some_unlisted index (suc s) w t h = let q : suc s - 1 ≡ s = omega arith in rw q (bit_without w (get_or index.listed s 0) t)
+pub some_unlisted : (listed : List ℕ) (c w t : ℕ) → (c ≡ 0 → ⊥)
+    → bit (bit_xor w (bit_and w (get_or listed (c - 1) 0))) t ≡ (bit w t && not (bit (arrays.listed_in listed c) t))
+some_unlisted listed zero w t h = absurd (h refl)
+some_unlisted listed (suc s) w t h = let q : suc s - 1 ≡ s = omega arith in rw q (bit_without w (get_or listed s 0) t)
 
 -- The left states that are listed with counters.
 

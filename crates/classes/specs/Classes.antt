@@ -70,11 +70,11 @@ top_leader work k (suc n) = cond (leads work n && eqb (key_of (counters_at work 
 abbrev pub empty_index : Index
 empty_index = record { heads = replicate keys 0; nexts = replicate max_slots 0; listed = replicate max_slots 0 }
 
-pub record Chained (work : List ℕ) (index : Index) (n : ℕ) : Type 0 where
-  pub heads_long : length index.heads ≡ keys
-  pub nexts_long : length index.nexts ≡ max_slots
-  pub head_is : (k : ℕ) → k < keys → get_or index.heads k 0 ≡ top_leader work k n
-  pub next_is : (s : ℕ) → s < n → leads work s ≡ true → get_or index.nexts s 0 ≡ top_leader work (key_of (counters_at work s)) s
+pub record Chained (work heads nexts : List ℕ) (n : ℕ) : Type 0 where
+  pub heads_long : length heads ≡ keys
+  pub nexts_long : length nexts ≡ max_slots
+  pub head_is : (k : ℕ) → k < keys → get_or heads k 0 ≡ top_leader work k n
+  pub next_is : (s : ℕ) → s < n → leads work s ≡ true → get_or nexts s 0 ≡ top_leader work (key_of (counters_at work s)) s
 
 pub record Joined (work : List ℕ) (index : Index) (n : ℕ) : Type 0 where
   pub listed_long : length index.listed ≡ max_slots
@@ -85,16 +85,16 @@ pub record Joined (work : List ℕ) (index : Index) (n : ℕ) : Type 0 where
   pub other_next : (s : ℕ) → s < n → leads work s ≡ false → get_or index.nexts s 0 ≡ class_of work (counters_at work s) s
 
 pub record Classes (work : List ℕ) (index : Index) (n : ℕ) : Type 0 where
-  pub chained : Chained work index n
+  pub chained : Chained work index.heads index.nexts n
   pub joined : Joined work index n
 
-abbrev pub class_at : Index → ℕ → ℕ
-class_at index s = cond (eqb (get_or index.listed s 0) 0) (get_or index.nexts s 0) (s + 1)
+abbrev pub class_at : List ℕ → List ℕ → ℕ → ℕ
+class_at nexts listed s = cond (eqb (get_or listed s 0) 0) (get_or nexts s 0) (s + 1)
 
 -- the left states that are listed with the counters of the class
-abbrev pub listed_in : Index → ℕ → ℕ
-listed_in index zero = 0
-listed_in index (suc s) = get_or index.listed s 0
+abbrev pub listed_in : List ℕ → ℕ → ℕ
+listed_in listed zero = 0
+listed_in listed (suc s) = get_or listed s 0
 
 abbrev pub index_after : Index → ℕ → ℕ → ℕ → ℕ → Index
 index_after index zero t k n =

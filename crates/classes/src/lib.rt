@@ -8,12 +8,15 @@ ghost use Rattle.automaton.specs.Ranges.{some};
 ghost use Rattle.automaton.specs.Sets.{bit};
 ghost use Rattle.slots.specs.Slots.{slot_count, max_slots, same_list, all_zero};
 ghost use Rattle.slots.specs.Bytes.{with_slot};
-ghost use Rattle.classes.specs.Classes.{counters_at, class_of, eight_from, key_from, key_of, keys, empty_index, Chained, Classes, class_at, listed_in, index_after};
+ghost use Rattle.classes.specs.Classes.{counters_at, class_of, eight_from, key_from, key_of, keys, empty_index, Classes, index_after};
+ghost use Rattle.classes.specs.Indexes.{Chained, class_at, listed_in};
 
 mod keyed;
+mod lookups;
 
 use automaton::MAX_STATES;
 pub use keyed::Keyed;
+pub use lookups::{class_at, class_of, unlisted};
 use slots::{MAX_SLOTS, SLOT_SIZE, Slot};
 
 // The number of keys.
@@ -113,20 +116,12 @@ impl Index {
         }
     }
 
-    // The class of counters among the first n slots, by the chain of their key. The chain is followed by hand: its links are numbers in fixed
-    // memory, and an iterator over them is no plainer.
+    // The class of counters among the first n slots.
     pub fn class_of(&self, work: &[u8], n: usize, keyed: Keyed) -> usize
         requires { (n ≤ slot_count (length work.now)) × Chained work.now self.now n }
         ensures { result ≡ class_of work.now keyed.entry.counters.now n }
     {
-        let mut c = self.heads[keyed.key] as usize;
-        while c > 0 {
-            if same_counters(work, c - 1, *keyed.counters) {
-                return c;
-            }
-            c = self.nexts[c - 1] as usize;
-        }
-        0
+        class_of(work, &self.heads, &self.nexts, n, keyed)
     }
 
     // The class of slot s.
@@ -134,11 +129,7 @@ impl Index {
         requires { s < max_slots }
         ensures { result ≡ class_at self.now s }
     {
-        if self.listed[s] == 0 {
-            self.nexts[s] as usize
-        } else {
-            s + 1
-        }
+        class_at(&self.nexts, &self.listed, s)
     }
 
     // The targets that are not listed with the counters of the class.
@@ -146,10 +137,7 @@ impl Index {
         requires { class ≤ max_slots }
         ensures { (t : ℕ) → bit result t ≡ (bit targets t && not (bit (listed_in self.now class) t)) }
     {
-        if class == 0 {
-            return targets;
-        }
-        targets ^ (targets & self.listed[class - 1])
+        unlisted(&self.listed, class, targets)
     }
 
     // Slot n, with this left state, joins the class, or leads one where the number is 0.

@@ -32,7 +32,8 @@ impl<'a> Listed<'a> {
     ghost use Rattle.automaton.specs.Sets.{bit};
     ghost use Rattle.slots.specs.Slots.{max_slots};
     ghost use Rattle.slots.specs.Bytes.{vertex_at};
-    ghost use Rattle.classes.specs.Classes.{class_of, class_at, listed_in};
+    ghost use Rattle.classes.specs.Classes.{class_of};
+    ghost use Rattle.classes.specs.Indexes.{class_at, listed_in};
     ghost use Rattle.graph.specs.Discovery.{below, discover as discovering, discover_all};
     ghost use Rattle.graph.specs.LagGraph.{lag_graph};
     ghost use Rattle.discovery.specs.Representation.{vertex_of, counters_to, Takes, ClassKnown, SideReady, TargetReady, SidesReady};

@@ -25,7 +25,8 @@ use Rattle.automaton.proofs.Members.{those_same}
 use Rattle.slots.specs.declared.Vertex.{Vertex}
 use Rattle.slots.specs.Slots.{slot_count, max_slots, same_vertex, same_list}
 use Rattle.classes.specs.declared.Index.{Index}
-use Rattle.classes.specs.Classes.{class_of, listed_with, listed_in, Joined}
+use Rattle.classes.specs.Classes.{class_of, listed_with, Joined}
+use Rattle.classes.specs.Indexes.{listed_in}
 use Rattle.classes.proofs.Leaders.{class_le}
 use Rattle.classes.proofs.ListedStates.{other, bit_of_xor, class_listed}
 use Rattle.graph.specs.Discovery.{Walk, going, below, discover_all}

@@ -5,7 +5,8 @@
 use Rattle.std.specs.Prelude.{◌≡◌, ◌&&◌, ◌||◌, not, List, ℕ, suc}
 use Rattle.automaton.specs.Sets.{bit}
 use Rattle.classes.specs.declared.Index.{Index}
-use Rattle.classes.specs.Classes.{class_of, listed_in}
+use Rattle.classes.specs.Classes.{class_of}
+use Rattle.classes.specs.Indexes.{listed_in}
 use Rattle.discovery.specs.declared.listed.Listed.{Listed}
 
 abbrev pub TargetsUnlisted : Index → ℕ → ℕ → ℕ → ℕ → ℕ → Type 0

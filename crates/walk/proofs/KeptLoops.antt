@@ -9,7 +9,8 @@ use lib.ListN.{length, get_or, set}
 use Rattle.automaton.specs.Automata.{max_letters}
 use Rattle.automaton.proofs.Booleans.{clash}
 use Rattle.slots.specs.declared.Vertex.{Vertex}
-use Rattle.classes.specs.Classes.{counters_at, class_of, class_at}
+use Rattle.classes.specs.Classes.{counters_at, class_of}
+use Rattle.classes.specs.Indexes.{class_at}
 use Rattle.classes.proofs.Leaders.{lists_equal, class_none, class_some, class_le}
 use Rattle.classes.proofs.ListedStates.{class_at_lem}
 use Rattle.slots.specs.Slots.{max_slots}
