@@ -22,7 +22,7 @@ use Rattle.automaton.proofs.Booleans.{clash}
 use Rattle.automaton.proofs.Bits.{bit_of_and, bit_zero, bit_half, bit_first}
 use Rattle.automaton.proofs.Lists.{those_next, those_here}
 use Rattle.automaton.proofs.Members.{next_in_byte, next_past_byte, those_same}
-use Rattle.automaton.proofs.Ranges.{next_holds, next_before, next_none}
+use Rattle.automaton.proofs.Ranges.{next_to, next_holds, next_before, next_none}
 use Rattle.relations.proofs.Rows.{even_word, bits_none, bit_low}
 
 -- Lists.
@@ -92,6 +92,12 @@ module _ (w b m : ℕ) (inside : b < 4) (least : m ≡ least_member (w / 2 ^ (b 
   pub least_past_byte : 8 ≤ m → next_from (bit w) (32 - b * 8) (b * 8) ≡ next_from (bit w) (32 - (b + 1) * 8) ((b + 1) * 8)
   least_past_byte l =
       next_past_byte (bit w) b (w / 2 ^ (b * 8) % 256) m least (bit_in_byte w b) 32 ((b + 1) * 8) (omega arith) (omega arith) l
+
+  -- where the byte has one
+  pub least_inside : (m ≡ 8 → ⊥) → m < 8
+  unfolding least_member
+  least_inside h =
+      lt_of_not-le (λ l. h (omega (arith, least, next_to (bit (w / 2 ^ (b * 8) % 256)) 8 0)))
 
 pub least_end : (w b : ℕ) → b ≤ 4 → 4 ≤ b → next_from (bit w) (32 - b * 8) (b * 8) ≡ 32
 least_end w b l h = next_none (bit w) 32 (b * 8) (omega arith) (λ k p q. absurd (omega arith))

@@ -14,7 +14,7 @@ fn least(set: u32) -> usize
 {
     for b in 0..4 {
         let m = least_member(((set >> (b * 8)) % 256) as u8);
-        if m < 8 {
+        if m != 8 {
             return b * 8 + m;
         }
     }
