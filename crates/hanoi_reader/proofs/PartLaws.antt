@@ -133,11 +133,12 @@ swapped x q p =
     (λ t. ⊎_elim (or_right (eqb p q) x) (λ e. or_left (eqb p q) x (same_flipped q p e)) (or_cases x (eqb q p) t))
     (λ t. ⊎_elim (λ e. or_right x (eqb q p) (same_flipped p q e)) (or_left x (eqb q p)) (or_cases (eqb p q) x t))
 
+pub declared_again : {D : Description} {ps : ℕ} {ds : List ℕ} {ls : Option ℕ} {A : Automaton} → Held D ps ds ls A → (s : List ℕ) (q k : ℕ)
+    → q < max_states → member ds q ≡ true → declaration s k q D ≡ over (refused 17)
+declared_again H s q k small e = check_refused _ 17 _ (ap not (sym (H.declares q small) ∙ e))
+
 module _ {D : Description} {ps : ℕ} {ds : List ℕ} {ls : Option ℕ} {A : Automaton} (H : Held D ps ds ls A) (s : List ℕ) (q k : ℕ)
     (small : q < A.states) where
-  pub declared_again : member ds q ≡ true → declaration s k q D ≡ over (refused 17)
-  declared_again e = check_refused _ 17 _ (ap not (sym (H.declares q (held_small H small)) ∙ e))
-
   -- undeclared: what the mark behind it comes to decides; t is the text by another name
   pub undeclared : member ds q ≡ false → (t : List ℕ) → t ≡ s → declaration s k q D ≡ acceptance t k (λ a l. next l (extended (declared q a) D))
   undeclared e t g =

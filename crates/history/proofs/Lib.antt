@@ -3,6 +3,7 @@ pub mod EntryLaws
 pub mod EntryChecks
 pub mod OpenTable
 pub mod OfferWalks
+pub mod OfferRows
 pub mod OfferCases
 pub mod OfferTable
 pub mod VerdictTable

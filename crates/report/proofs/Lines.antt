@@ -6,23 +6,29 @@ use Prim.Native.Nat.{ℕ}
 use native.Mathlib.Nat.{zero-add}
 use lib.Dec.{leb}
 use lib.ListN.{length, drop}
-use Rattle.std.specs.Prelude.{Some, None}
+use Rattle.std.specs.Prelude.{Some, None, Err}
 use Rattle.history.specs.declared.Entry.{Entry}
+use Rattle.history.specs.declared.OfferRefusal.{OfferRefusal}
 use Rattle.history.specs.declared.OfferRow.{OfferRow}
 use Rattle.history.specs.declared.OfferRow.TheVariants.{Refused, NoSlots, NoRoom}
-use Rattle.history.specs.OfferAnswers.{row_number, row_answer}
+use Rattle.history.specs.OfferAnswers.{offer_refusal_number, offer_answer_of, offer_row, row_number, row_answer}
 use Rattle.buffers.specs.Buffers.{WrittenAt}
 use Rattle.buffers.specs.Cursors.{Added}
 use Rattle.buffers.specs.declared.Cursor.{Cursor}
 use Rattle.report.specs.Line.{offer_line, refused_line, line_after, answered_length, Lined}
+use Rattle.history.proofs.OfferRows.{row_numbered}
 use Rattle.buffers.proofs.Buffers.{written_keeps_length}
 
--- a refusal's line is that of its row's number
-pub refusal_shown : (E : Entry) (w : List ℕ) (r : OfferRow) → refused_line (row_number r) ≡ offer_line E (row_answer r) w
+-- a row's line is that of its number
+pub row_shown : (E : Entry) (w : List ℕ) (r : OfferRow) → refused_line (row_number r) ≡ offer_line E (row_answer r) w
 unfolding offer_line
-refusal_shown E w (Refused n) = refl
-refusal_shown E w (NoSlots i n) = refl
-refusal_shown E w (NoRoom i len) = refl
+row_shown E w (Refused n) = refl
+row_shown E w (NoSlots i n) = refl
+row_shown E w (NoRoom i len) = refl
+
+-- and a refusal's that of its own number
+pub refusal_shown : (E : Entry) (w : List ℕ) (r : OfferRefusal) → refused_line (offer_refusal_number r) ≡ offer_line E (offer_answer_of (Err r)) w
+refusal_shown E w r = ap (λ (n : ℕ). refused_line n) (sym (row_numbered r)) ∙ row_shown E w (offer_row r)
 
 -- the buffer has the bytes that are asked for, and the line is written to its front
 pub line_written : (m : ℕ) {l d e : List ℕ} {r : ℕ} → true ≡ leb m (length d) → WrittenAt d 0 l e r → Lined m l d e (Some r)

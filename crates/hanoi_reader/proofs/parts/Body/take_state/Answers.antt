@@ -5,7 +5,7 @@ use Rattle.std.proofs.lemmas.Result.{err_from_is_err_and}
 use Rattle.tokens.proofs.Scanners.{ahead_moved, ahead_append}
 use Rattle.hanoi.specs.Reading.{state_at}
 use Rattle.hanoi.specs.Meaning.{with_part}
-use Rattle.hanoi_reader.proofs.PartLaws.{holds_small, held_states, declared_again, undeclared, held_state}
+use Rattle.hanoi_reader.proofs.PartLaws.{holds_small, held_small, held_states, declared_again, undeclared, held_state}
 use Rattle.hanoi_reader.proofs.parts.Body.take_state.Goals as goal
 
 pub number_in-requires : goal.number_in-requires
@@ -23,7 +23,7 @@ is_member-requires c = let r = holds_small c.args.self.now.holds in omega (arith
 pub returns-then-is_member-clause-taken : goal.returns-then-is_member-clause-taken
 unfolding state_at
 returns-then-is_member-clause-taken c = λ D H. (
-  c.in_ok-q.ensures.meaning _ (held_states H) _ ∙ declared_again H _ _ _ c.in_ok-q.ensures.within.1 (sym c.is_member.ensures ∙ c.if-is_member.true),
+  c.in_ok-q.ensures.meaning _ (held_states H) _ ∙ declared_again H _ _ _ (held_small H c.in_ok-q.ensures.within.1) (sym c.is_member.ensures ∙ c.if-is_member.true),
   H.automaton,
   refl,
 )
