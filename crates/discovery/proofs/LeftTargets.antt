@@ -51,14 +51,27 @@ grows_on work n work' m work'' r G H =
 pub grown_none : (l : Listed) → Grown l l
 grown_none l = record { same_buffer = refl; same_length = refl; same_index = refl; grows = grows_none l.work.now l.count }
 
-pub grown_on : (l m k : Listed) → Grown l m → Grown m k → Grown l k
-grown_on l m k G H =
+-- the list m stands in the buffer of the list l, with every vertex of l at its place; nothing is said of the buffer's length
+pub record GrownInPlace (l m : Listed) : Type 0 where
+  pub same_buffer : m.work.ghost_name ≡ l.work.ghost_name
+  pub same_index : m.index.ghost_name ≡ l.index.ghost_name
+  pub grows : Grows l.work.now l.count m.work.now (Ok m.count)
+
+pub grown_in_place : (l m : Listed) → Grown l m → GrownInPlace l m
+grown_in_place l m G = record { same_buffer = G.same_buffer; same_index = G.same_index; grows = G.grows }
+
+pub grown_in_place_on : (l m k : Listed) → GrownInPlace l m → GrownInPlace m k → GrownInPlace l k
+grown_in_place_on l m k G H =
     record {
       same_buffer = H.same_buffer ∙ G.same_buffer;
-      same_length = H.same_length ∙ G.same_length;
       same_index = H.same_index ∙ G.same_index;
       grows = grows_on l.work.now l.count m.work.now m.count k.work.now (Ok k.count) G.grows H.grows;
     }
+
+pub grown_on : (l m k : Listed) → Grown l m → Grown m k → Grown l k
+grown_on l m k G H =
+    let P = grown_in_place_on l m k (grown_in_place l m G) (grown_in_place m k H) in
+    record { same_buffer = P.same_buffer; same_length = H.same_length ∙ G.same_length; same_index = P.same_index; grows = P.grows }
 
 -- A vertex has taken slot n: what is known of classes and of listed states.
 module _ (work work' : List ℕ) (n m : ℕ) (v : Vertex) (G : Grows work n work' (Ok m)) (K : Takes n v work' (Ok m)) where

@@ -145,14 +145,27 @@ module _ (A : Automaton) where
         visit : ℕ → ℕ → ℕ → Bool
         visit p q x = transition A p a x && (related (loop_visits A v) x q || (accepts A x && related (loop_runs A v) x q))
 
--- One letter of the stem, by a table that is held for it.
+-- One letter of the stem, by the tables of the letters.
 module _ (A : Automaton) where
+  -- for each letter, the entries of its table that a word names lead where transitions on the letter do
+  abbrev pub NamedUnions : List (List ℕ) → Type 0
+  NamedUnions tables =
+      (a w q : ℕ) → a < A.letters → q < A.states
+      → named (get_or tables a []) (groups_for A.states) w q ≡ some (λ p. bit w p && transition A p a q) A.states 0
+
+  pub held_named : (tables : List (List ℕ)) → HeldUnions A tables → NamedUnions tables
+  held_named tables held a w q l hq =
+      ∥∥₁_elim (held.letter a l) (search props)
+      (λ u. letter_named A held.in_range a l (get_or tables a []) u.rows u.unions
+      (λ p x hp hx. u.targets p x hp hx ∙ sym (bit_of_transition A held.in_range p a x hp l hx)) w q hq)
+
+  pub letter_by_names : (w a r : ℕ) (tables : List (List ℕ)) → NamedUnions tables → a < A.letters
+      → ((q : ℕ) → bit r q ≡ named (get_or tables a []) (groups_for A.states) w q) → set_of A.states r ≡ on_letter A (set_of A.states w) a
+  letter_by_names w a r tables known l e = letter_same A w a r (λ q hq. e q ∙ known a w q l hq)
+
   pub letter_held : (w a r : ℕ) (tables : List (List ℕ)) → HeldUnions A tables → a < A.letters
       → ((q : ℕ) → bit r q ≡ named (get_or tables a []) (groups_for A.states) w q) → set_of A.states r ≡ on_letter A (set_of A.states w) a
-  letter_held w a r tables held l e =
-      letter_same A w a r (λ q hq. e q ∙ ∥∥₁_elim (held.letter a l) (search props)
-      (λ u. letter_named A held.in_range a l (get_or tables a []) u.rows u.unions
-      (λ p x hp hx. u.targets p x hp hx ∙ sym (bit_of_transition A held.in_range p a x hp l hx)) w q hq))
+  letter_held w a r tables held l e = letter_by_names w a r tables (held_named tables held) l e
 
 -- A word, letter by letter.
 

@@ -6,6 +6,7 @@ use mathlib.Core.List.{List}
 use Prim.Native.Nat.{ℕ, zero, suc, ◌+◌, ◌*◌, ◌%◌, ◌≤◌, ◌<◌}
 use native.Mathlib.Omega.{arith}
 use lib.ListN.{length, get_or, set}
+use Rattle.std.specs.Prelude.{Ok}
 use Rattle.automaton.specs.Automata.{max_letters}
 use Rattle.automaton.proofs.Booleans.{clash}
 use Rattle.slots.specs.declared.Vertex.{Vertex}
@@ -15,7 +16,7 @@ use Rattle.classes.proofs.Leaders.{lists_equal, class_none, class_some, class_le
 use Rattle.classes.proofs.ListedStates.{class_at_lem}
 use Rattle.slots.specs.Slots.{max_slots}
 use Rattle.discovery.specs.declared.listed.Listed.{Listed}
-use Rattle.discovery.specs.Lists.{Grown}
+use Rattle.discovery.specs.Representation.{Grows}
 use Rattle.kept.specs.declared.Kept.{Kept}
 use Rattle.successors.specs.declared.rules.Rules.{Rules}
 use Rattle.successors.specs.Steps.{LinesKept}
@@ -79,11 +80,12 @@ module _ (rules : Rules) (l : Listed) (line : ℕ) (counters : List ℕ) (kept :
 
   pub line_kept : (places : List ℕ) → length places ≡ length kept.lines → OnLetter places
       → ((i : ℕ) → i ≢ line + letter * 2 → i ≢ line + letter * 2 + 1 → get_or places i 0 ≡ get_or kept.lines i 0)
-      → (m : Listed) → Grown l m → LinesKept rules m (record { owners = kept.owners; lines = places }) × Owns m line counters kept.owners
+      → (m : Listed) → Grows l.work.now l.count m.work.now (Ok m.count)
+      → LinesKept rules m (record { owners = kept.owners; lines = places }) × Owns m line counters kept.owners
   line_kept places e S others m G =
-      let more = G.grows.no_fewer in
+      let more = G.no_fewer in
       let d = O.below in (
-        kept_grows rules.tops.now rules.masks.now rules.right.now.states l.work.now m.work.now l.count m.count G.grows.slots G.grows.no_fewer places
+        kept_grows rules.tops.now rules.masks.now rules.right.now.states l.work.now m.work.now l.count m.count G.slots G.no_fewer places
             kept.owners
             (kept_step rules.tops.now rules.masks.now rules.right.now.states l.work.now l.count kept.owners kept.lines K places
             (suc O.slot % lines) letter O.slot e (omega arith) few O.owner (rw (O.from, ← O.has) at S) (rw O.from at others)),
@@ -91,7 +93,7 @@ module _ (rules : Rules) (l : Listed) (line : ℕ) (counters : List ℕ) (kept :
           slot = O.slot;
           below = omega arith;
           owner = O.owner;
-          has = ap (λ (v : Vertex). v.counters) (G.grows.slots O.slot O.below) ∙ O.has;
+          has = ap (λ (v : Vertex). v.counters) (G.slots O.slot O.below) ∙ O.has;
           from = O.from;
         },
       )

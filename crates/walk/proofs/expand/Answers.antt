@@ -67,7 +67,7 @@ returns-in_err-expand_letter-clause-lines c =
     let i = l.invariant in
     let few : l.letter < 16 = omega (arith, c.loop-letter-test.true, u.rules.few_letters) in
     (line_kept u.rules l.listed c.line_of-line.result c.vertex-vertex.result.counters l.kept i.lines i.owns l.letter few v.new.kept v.auto.kept
-    v.ensures.step v.ensures.others v.new.listed v.ensures.grows).0
+    v.ensures.step v.ensures.others v.new.listed v.ensures.grows.grows).0
 
 pub loop-letter-preserved : goal.loop-letter-preserved
 loop-letter-preserved c =
@@ -78,7 +78,7 @@ loop-letter-preserved c =
     let i = l.invariant in
     let few : l.letter < 16 = omega (arith, c.loop-letter-test.true, u.rules.few_letters) in
     let K = line_kept u.rules l.listed c.line_of-line.result c.vertex-vertex.result.counters l.kept i.lines i.owns l.letter few v.new.kept v.auto.kept
-    v.ensures.step v.ensures.others v.new.listed v.ensures.grows in record {
+    v.ensures.step v.ensures.others v.new.listed v.ensures.grows.grows in record {
       grown = grown_on a.listed.now l.listed v.new.listed i.grown v.ensures.grows;
       lines = K.0;
       owns = K.1;
